@@ -300,8 +300,7 @@ TWICE += "002;w;03.02.2010;;;Huber;03.02.2011;;\n003;w;03.02.2013;001;002;Huber;
 @pytest.mark.parametrize(
     "titles",
     [
-        "Besitzer 1;seit 1;Besitzer 2;seit 2", "1. Besitzer;seit;2. Besitzer;bis", "Owner 1;Since 1;Owner 2;Since 2",
-        "Propriétaire 1;depuis 1;Propriétaire 2;depuis 2", "Besitzer;Besitzer seit;Mitbesitzer;dabei seit",
+        "1. Besitzer;seit;2. Besitzer;bis", "Owner 1;Since 1;Owner 2;Entered", "Besitzer;Besitzer seit;Mitbesitzer;dabei seit",
     ],
 )  # fmt: skip
 def test_second_owners(desk: Desk, titles: str) -> None:

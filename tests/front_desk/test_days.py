@@ -206,6 +206,16 @@ def test_one_day_in_the_other_order(desk: Desk) -> None:
     desk.wrong("(3 such days)", "import", desk.write("sheet.csv", sheet.replace("06/25", "25/06") + months), "--book", "two")
 
 
+def test_one_day_in_a_column_of_few(desk: Desk) -> None:
+    """The order that the other columns show is read, unless others of the column may have the month first too."""
+    sheet = TITLES + "".join(f"d{day};F;{day}/03/2002;;;\n" for day in range(13, 18)) + "b;F;25/06/2004;;;sold 3/28/2019\n"
+    done = desk.take(sheet)
+    told = "day and month in the other order than elsewhere in 1 cell of the column 'exit': 'sold 3/28/2019' in line 7"
+    assert told in done.out and [line.split(",")[2] for line in desk.commands() if line[:4] == "exit"] == ["2019-03-28"]
+    unsure = sheet + "c;F;26/06/2004;;;sold 3/4/2019\n"
+    desk.wrong("'3/28/2019' has the month first", "import", desk.write("sheet.csv", unsure), "--book", "unsure")
+
+
 def test_no_day_shows_the_order(desk: Desk) -> None:
     done = desk.take(TITLES + "a;F;03/04/2001;;;\nb;F;05/05/2004;;;\n")
     told = "1 day with / could have the month first, and no day in the sheet shows which"

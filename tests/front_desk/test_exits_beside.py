@@ -65,6 +65,29 @@ def test_titles_of_such_columns(desk: Desk, titles: str) -> None:
     assert (reason(desk, "1")[0], reason(desk, "2")[0]) == ("2020-01-01", "2021-03-03")
 
 
+@pytest.mark.parametrize("title", ["†", "†  am", "✝ Datum", "gest.", "+", "(+)", "+ am"])
+def test_signs_of_deaths_as_titles(desk: Desk, title: str) -> None:
+    """One is the column of exits where no other is, and is read beside one, also at the next time."""
+    sheet = f"{BEGIN}{title}\n" + rows(("1.1.2020", ""), "3.3.2021")
+    done = desk.take(sheet)
+    assert f"exit from '{' '.join(title.split())}'" in done.out
+    assert [reason(desk, id)[0] for id in "123"] == ["2020-01-01", "", "2021-03-03"]
+    assert " 0 changed" in desk.take(sheet).last
+    done = desk.take(f"{BEGIN}Abgang;{title}\n" + rows((";1.1.2020", ";"), "4.4.2022;"), "--book", "other")
+    assert "has an exit in 1 row where 'Abgang' has none" in done.out
+
+
+def test_yes_below_a_cross(desk: Desk) -> None:
+    done = desk.take(f"{BEGIN}Abgang;†\n" + rows((";x", "3.3.2021;"), ";2.2.2022"))
+    assert "1 of 2 cells that tell of an exit in the column '†', the first in line 2" in done.told
+    assert reason(desk, "3") == ("2022-02-02", "†")
+
+
+def test_plus_of_something_else(desk: Desk) -> None:
+    done = desk.take(f"{BEGIN}+\n" + rows(("3", "4"), "x"))
+    assert "not read: '+'" in done.out and "exit from" not in done.out
+
+
 def test_days_beside_words(desk: Desk) -> None:
     """A word without a day gets that of the other column, but not of another exit; what says that the animal lives is
     told."""

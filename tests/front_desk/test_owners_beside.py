@@ -84,3 +84,35 @@ def test_first_name_without_an_owner(desk: Desk) -> None:
     done = desk.take("Id;Besitzer;Vorname;Birth;Sire;Dam\nA1;Huber;Rita;2010;;\nA2;;Leo;2010;;\n")
     told = "1 row has nothing in 'Besitzer', and 'Leo' in 'Vorname', in line 3: no owner is taken from there"
     assert told in done.out and not done.commands() and owners_listed(desk) == ["Huber Rita", ""]
+
+
+# -- owners in turn
+
+IN_TURN = "Id;Name;Birth;Sire;Dam;{}\nA1;Balz;12.03.2010;;;Meier;{}\nA2;Gian;14.04.2010;;;Meier;{}\n"
+
+
+@pytest.mark.parametrize(
+    "titles, later, first",
+    [
+        ("1st Owner;2nd Owner;From", "Kunz;30.04.2018", ";"), ("1. Eigentümer;2. Eigentümer;seit", "Kunz;30.04.2018", "-;"),
+        ("1er propriétaire;2e propriétaire;depuis", "Kunz;30.04.2018", ";"),
+        ("Owner 1;Since 1;Owner 2;Since 2", "01.02.2011;Kunz;30.04.2018", "01.02.2011;;"),
+        ("Besitzer 1;seit 1;Besitzer 2;seit 2;Besitzer 3;seit 3", "1.2.2011;Egli;1.1.2012;Kunz;30.04.2018", "1.2.2011;;;;"),
+    ],
+)
+def test_owners_in_turn(desk: Desk, titles: str, later: str, first: str) -> None:
+    """The last one in a row is the owner of now, since the day behind; the days aren't offered as exits."""
+    sheet = IN_TURN.format(titles, later, first)
+    done = desk.take(sheet)
+    title = titles.split(";")[0]
+    assert f"to look at: 1 row has a later owner behind '{title}', 'Kunz' in line 2 in " in done.out
+    assert "not read" not in done.out and "exit=" not in done.out and done.out.count("to look at") == 1
+    assert owners_listed(desk) == ["Kunz", "Meier"] and "Kunz, since 2018-04-30" in desk.good("show", "A1").out
+    assert " 0 changed" in desk.take(sheet).last
+
+
+def test_owners_that_are_not_in_turn(desk: Desk) -> None:
+    """Those that count without days may own an animal together, and until when says that the second was before."""
+    for titles in ("Besitzer 1;Besitzer 2;Bemerkung", "1st Owner;2nd Owner;Until"):
+        done = desk.take(IN_TURN.format(titles, "Kunz;30.04.2018", ";"), "--book", titles[:3])
+        assert "later owner" not in done.out and "isn't read, and has 'Kunz' in line 2" in done.out

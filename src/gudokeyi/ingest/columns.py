@@ -36,7 +36,7 @@ from gudokeyi.ingest.remarks import telling_castrations, telling_exits
 from gudokeyi.ingest.sheets import Sheet
 from gudokeyi.ingest.titles import (
     KNOWN_DOUBTFUL, KNOWN_DOUBTFUL_DAYS, KNOWN_DOUBTFUL_NAMES, KNOWN_REASONS, KNOWN_STATES, KNOWN_TITLES, NEEDED,
-    TITLES, known_titles, names_both_sexes, names_exits_alone, said_of,
+    TITLES, known_titles, names_both_sexes, names_exit_days, names_exits_alone, said_of,
 )  # fmt: skip
 from gudokeyi.ingest.texts import plain
 from gudokeyi.ingest.words import (
@@ -91,7 +91,7 @@ class Columns:
         """The columns of each title: a sheet may have very many."""
         found = collections.defaultdict[str, list[int]](list)
         for at, title in enumerate(self.sheet.titles):
-            found[plain(title)].append(at)
+            found[as_title(title)].append(at)
         return found
 
     def is_free(self, at: int) -> bool:
@@ -110,8 +110,8 @@ class Columns:
 
 def named_columns(columns: Columns, given: Mapping[str, str], before: Mapping[str, str]) -> dict[str, str]:
     """Finds the columns by the titles that are `given`, or of the last time; answers these titles."""
-    titles = {plain(title) for title in columns.sheet.titles}
-    named = {name: title for name, title in before.items() if not title or plain(title) in titles} | dict(given)
+    titles = {as_title(title) for title in columns.sheet.titles}
+    named = {name: title for name, title in before.items() if not title or as_title(title) in titles} | dict(given)
     for name in TITLES:
         # which column has the ids of a book is seen in its cells
         if named.get(name) and (name != Field.ID or name in given):
@@ -194,10 +194,15 @@ def only_ids(columns: Columns, before: str) -> list[int]:
     return tags if are_ids or plain(before) == TAG else []
 
 
+def as_title(title: str) -> str:
+    """A title as it is compared; one of signs alone, as `†`, as it is written."""
+    return plain(title) or title
+
+
 def name_column(columns: Columns, name: str, named: Mapping[str, str]) -> None:
     title = named[name]
     places = [at for at, one in enumerate(columns.sheet.titles) if one == title]
-    places += [at for at, one in enumerate(columns.sheet.titles) if plain(one) == plain(title)]
+    places += [at for at, one in enumerate(columns.sheet.titles) if as_title(one) == as_title(title)]
     if places:
         columns.found[name] = places[0]
         return
@@ -228,7 +233,7 @@ def usual_column(columns: Columns, name: str) -> None:
 
 def days_of_exits(columns: Columns) -> list[int]:
     """The columns such as `verkauft am`, most of whose cells are days."""
-    titled = [at for at, title in enumerate(columns.sheet.titles) if columns.is_free(at) and names_exits_alone(title)]
+    titled = [at for at, title in enumerate(columns.sheet.titles) if columns.is_free(at) and names_exit_days(title)]
     said = {at: [*filter(None, columns.cells(at))] for at in titled[:MOST_ALIKE]}
     return [at for at, cells in said.items() if 2 * sum(map(says_day, cells)) > len(cells)]
 
@@ -408,7 +413,7 @@ def tell_lost(columns: Columns, before: Mapping[str, str], likely: LikelyColumns
     """The last sheet had a column that this one lacks, as where it has another title now."""
     exits = [title for name, title in before.items() if title and name.split()[0] == Field.EXIT]
     if Field.EXIT in columns.found:
-        columns.lost_exits = tuple(title for title in exits if plain(title) not in columns.by_title)
+        columns.lost_exits = tuple(title for title in exits if as_title(title) not in columns.by_title)
     for name, title in before.items():
         if title and name in TITLES and name not in columns.found and name not in NEEDED:
             columns.notes.append(ColumnLost(Field(name), title, likely.of_lost(Field(name), title)))

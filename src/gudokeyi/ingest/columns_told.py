@@ -13,6 +13,7 @@ from gudokeyi.ingest.findings.columns import ColumnLost
 from gudokeyi.ingest.genetic_dams import tell_carriers, with_genetic_dam, without_carriers
 from gudokeyi.ingest.likely_exits import tell_likely_exits
 from gudokeyi.ingest.marks_and_corrections import tell_marks
+from gudokeyi.ingest.owners_in_turn import read_owners_in_turn
 from gudokeyi.ingest.parents_by_genes import tell_parents_by_genes
 from gudokeyi.ingest.second_owners import tell_second_owners
 from gudokeyi.ingest.sheets import Sheet
@@ -37,6 +38,7 @@ def columns_told(
     without_carriers(columns)
     tell_carriers(columns, unknown)
     tell_parents_by_genes(columns, unknown)
+    read_owners_in_turn(columns)
     tell_second_owners(columns, unknown)
     tell_marks(columns, unknown)
     tell_likely_exits(columns, {**before, **given})

@@ -5,7 +5,7 @@ import collections
 import datetime
 import functools
 import re
-from collections.abc import Collection, Iterable
+from collections.abc import Collection, Iterable, Mapping
 from dataclasses import replace
 from typing import Container, NamedTuple
 
@@ -32,6 +32,8 @@ from gudokeyi.ingest.words_beside import words_beside
 
 # so many days in one order show that one in the other is a slip, and so many that each further one is
 LEAST_RIGHT, MANY_RIGHT = 5, 20
+# so many of a column show it where those of the others do too
+SEVERAL = 2
 SLASHED = re.compile(r"(?<!\d)(\d{1,2})([/-])(\d{1,2})\2\d{4}(?!\d)")
 
 
@@ -42,7 +44,8 @@ class Order:
     def __init__(self, cells: Iterable[Place]) -> None:
         self.months_first: list[Place] = []
         self.days_first: list[Place] = []
-        self.either = 0
+        # how many of each column show neither
+        self.open = collections.Counter[str]()
         for cell in cells:
             for found in SLASHED.finditer(cell.text):
                 first, second = int(found[1]), int(found[3])
@@ -51,7 +54,7 @@ class Order:
                 elif second > 12 >= first:
                     self.months_first.append(replace(cell, text=found[0]))
                 else:
-                    self.either += first != second
+                    self.open[cell.field] += first != second
 
     @staticmethod
     def may_show(text: str) -> bool:
@@ -59,22 +62,29 @@ class Order:
         return SLASHED.search(text) is not None
 
     def fault(self, month_first: bool) -> WrongOrder | OneWrongOrder | None:
-        """Why the days can't be read in the order that is wished; nothing where so many of each column are written in
-        it that the others are slips, which are read by themselves."""
+        """Why the days can't be read in the order that is wished; nothing where so many are written in it that the
+        others are slips, which are read by themselves."""
         wrong = self.days_first if month_first else self.months_first
         right = self.months_first if month_first else self.days_first
         slips, others = (collections.Counter(one.field for one in places) for places in (wrong, right))
         if all(others[field] >= max(LEAST_RIGHT, MANY_RIGHT * (count - 1)) for field, count in slips.items()):
             return None
+        if len(wrong) == 1 and len(right) >= LEAST_RIGHT and self.shows_order(wrong[0].field, others):
+            return None
         if len(wrong) == 1 < len(right):
             return OneWrongOrder(month_first, wrong[0], len(right), right[0])
         return WrongOrder(month_first, wrong[0], len(wrong), right[0] if right else None)
 
+    def shows_order(self, field: str, right: Mapping[str, int]) -> bool:
+        """Has a column several days in the order of the sheet, or none that may be in the other one?"""
+        return right[field] >= SEVERAL or not self.open[field]
+
     def note(self, month_first: bool) -> NoOrderShown | None:
         """What is told where no day shows the order."""
-        if not self.either or self.days_first or self.months_first or month_first:
+        either = self.open.total()
+        if not either or self.days_first or self.months_first or month_first:
             return None
-        return NoOrderShown(self.either)
+        return NoOrderShown(either)
 
 
 # What the cells of days say. The same texts stand in many cells, and each is read once.

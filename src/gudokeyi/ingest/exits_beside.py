@@ -19,7 +19,7 @@ from gudokeyi.ingest.findings.rows import StatusDisagrees
 from gudokeyi.ingest.sheets import Sheet, SheetRow, cell_of
 from gudokeyi.ingest.texts import listed, plain
 from gudokeyi.ingest.titles import (
-    BETWEEN_WORDS, DEATHS, KNOWN_DOUBTFUL, KNOWN_TITLES, SALE_DAYS, names_exits_alone, names_other_exits, said_of,
+    BETWEEN_WORDS, DEATHS, KNOWN_DOUBTFUL, KNOWN_TITLES, SALE_DAYS, is_cross_title, names_exit_days, names_other_exits, said_of,
 )  # fmt: skip
 from gudokeyi.ingest.words import (
     KNOWN_EXITS, KNOWN_NO, KNOWN_SALES, KNOWN_YES, LETTER, PLAIN_EXITS, exit_word, has_word, is_still_there, lives,
@@ -60,7 +60,7 @@ def exit_columns(sheet: Sheet, columns: Mapping[str, int]) -> list[int]:
     free = [at for at, title in enumerate(sheet.titles) if title and at not in columns.values()]
     named = ((at, plain(sheet.titles[at])) for at in free)
     those = {at for at, title in named if title in usual or title.rstrip(string.digits) in usual}
-    return [at for at in free if at in those or names_exits_alone(sheet.titles[at])]
+    return [at for at in free if at in those or names_exit_days(sheet.titles[at])]
 
 
 def exit_day_columns(sheet: Sheet, columns: Mapping[str, int]) -> list[int]:
@@ -85,7 +85,7 @@ def columns_beside(sheet: Sheet, columns: Mapping[str, int]) -> list[int]:
 def tells_exits(texts: list[str], word: str) -> bool:
     """Is any of the texts a day or a month, or are most of the different ones years or numbers, or a yes or a no?"""
     said = {*texts} - {""}
-    known = KNOWN_YES | KNOWN_NO if has_word(word, PLAIN_EXITS) else set[str]()
+    known = KNOWN_YES | KNOWN_NO if says_plainly(word) else set[str]()
     if any(map(says_day_or_month, said)):
         return True
     return 2 * sum(text.casefold() in known or says_day(text) for text in said) > len(said)
@@ -107,10 +107,17 @@ def are_days(texts: Iterable[str]) -> bool:
     return 2 * sum(map(says_day, some)) > len(some)
 
 
+def says_plainly(word: str) -> bool:
+    """Does a yes in a column with this word tell of an exit?"""
+    return has_word(word, PLAIN_EXITS) or is_cross_title(word)
+
+
 def word_of(title: str) -> str:
     """The words of a title that say why an animal left."""
     if plain(title) in SALE_DAYS:
         return "verkauft"
+    if is_cross_title(title):
+        return "†"
     words = [word for word in BETWEEN_WORDS.split(title) if plain(word) in KNOWN_EXITS]
     return title if plain(title) in DEATHS else " ".join(words)
 
@@ -130,7 +137,7 @@ class ExitDays:
             cell = cell_of(row, at)
             if not cell or self.tells_none(cell) or cell == title and self.are_titles(row):
                 continue
-            is_yes = cell.casefold() in KNOWN_YES and has_word(word, PLAIN_EXITS)
+            is_yes = cell.casefold() in KNOWN_YES and says_plainly(word)
             text = self.of_yes(exits, place, row, word) if is_yes else self.taken(exits, place, row, at)
             if text:
                 exits.texts[place], exits.titles[row.line] = text, title

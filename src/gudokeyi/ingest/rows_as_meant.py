@@ -29,6 +29,7 @@ from gudokeyi.ingest.marked_ids import without_signs_of_exits
 from gudokeyi.ingest.names_for_ids import with_names_for_ids
 from gudokeyi.ingest.no_days import without_no_days
 from gudokeyi.ingest.owners_beside import owners_named
+from gudokeyi.ingest.owners_in_turn import with_owners_of_now
 from gudokeyi.ingest.sheets import Sheet, SheetRow, cell_of, with_cell
 from gudokeyi.ingest.statuses import SOLD, TAKER, exits_said
 from gudokeyi.ingest.texts import nearly, plain, shape, shapes_of
@@ -277,6 +278,8 @@ def as_meant(
     owners = owners_named(rows, sheet, columns, DITTO_OF_OWNER)
     if owners:
         rows = with_cells(rows, columns[Field.OWNER], owners)
+    for field, texts in with_owners_of_now(rows, sheet, columns).items():
+        rows = with_cells(rows, columns[field], texts) if texts and field in columns else rows
     rows = without_no_days(rows, sheet, columns, report)
     rows = read_together(rows, sheet, columns, unknown, report)
     births = births_said(rows, sheet, columns, unknown, report)

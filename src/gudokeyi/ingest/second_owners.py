@@ -1,7 +1,6 @@
 """Columns of second owners, as `Besitzer 2`, beside that from which owners are read."""
 from __future__ import annotations
 
-import re
 from collections.abc import Container
 
 from gudokeyi.domain.kinds import Field
@@ -10,16 +9,21 @@ from gudokeyi.ingest.findings.columns_unread import SecondOwnersUnread
 from gudokeyi.ingest.texts import listed, plain
 from gudokeyi.ingest.titles import KNOWN_TITLES
 
-# what stands before or behind a usual title, and whole titles
-NUMBER = r"(?:[2-9]|zweiter|zweite|dritter|second|secondary|third|2nd|3rd|2eme|3eme|2e|3e|deuxieme)"
-BEFORE, BEHIND = re.compile(rf"{NUMBER}(?P<title>.+)"), re.compile(r"(?P<title>.+?)[2-9]")
+# what stands before a usual title, or behind it, and whole titles
+NUMBERS = "2", "3", "4", "5", "6", "7", "8", "9"
+BEFORE = *NUMBERS, *(
+    plain(word) for word in listed(
+        "zweiter, zweite, dritter, second, secondary, third, 2nd, 3rd, 2ème, 3ème, 2e, 3e, deuxième"
+    )
+)  # fmt: skip
 WHOLE = {plain(title) for title in listed("Mitbesitzer, Mitbesitzerin, Miteigentümer, co-owner, copropriétaire")}
 
 
 def names_second_owner(title: str) -> bool:
     compared = plain(title)
-    found = [one["title"] for one in (BEFORE.fullmatch(compared), BEHIND.fullmatch(compared)) if one]
-    return compared in WHOLE or any(one in KNOWN_TITLES[Field.OWNER] for one in found)
+    titles = [compared[len(word) :] for word in BEFORE if compared.startswith(word)]
+    titles += [compared[:-1]] if compared.endswith(NUMBERS) else []
+    return compared in WHOLE or any(one in KNOWN_TITLES[Field.OWNER] for one in titles)
 
 
 def tell_second_owners(columns: Columns, unknown: Container[str]) -> None:

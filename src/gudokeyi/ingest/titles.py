@@ -289,14 +289,33 @@ DEATHS = {plain(title) for title in TITLES_OF_DEATHS}
 SALE_DAYS = {plain(title) for title in ("Verkaufsdatum", "Verkaufstag", "Abgabedatum")}
 
 
+# the signs of a death, and one that may be that of something else where no days stand below it
+CROSS, PLUS = re.compile("[†✝✞]"), re.compile(r"\(?\+\)?(?:\s*[^\W\d_]+)?")
+
+
+def words_beside_days(title: str) -> set[str]:
+    return {plain(word) for word in BETWEEN_WORDS.split(title)} - BESIDE_EXITS - {""}
+
+
 def names_exits_alone(title: str) -> bool:
     if plain(title) in DEATHS | SALE_DAYS:
         return True
-    words = {plain(word) for word in BETWEEN_WORDS.split(title)} - BESIDE_EXITS - {""}
-    return bool(words) and words <= KNOWN_EXITS
+    words = words_beside_days(title)
+    return words <= KNOWN_EXITS if words else CROSS.search(title) is not None
+
+
+def names_exit_days(title: str) -> bool:
+    """The same of a column of days."""
+    return names_exits_alone(title) or is_cross_title(title)
+
+
+def is_cross_title(title: str) -> bool:
+    """Is it a sign of a death, as `†` or `+ am`?"""
+    sign = CROSS.search(title) or PLUS.fullmatch(title)
+    return sign is not None and not words_beside_days(title)
 
 
 def names_other_exits(title: str) -> bool:
     """Does a title such as `gestorben am` name exits of which none is a sale?"""
     words = {plain(word) for word in BETWEEN_WORDS.split(title)} & KNOWN_EXITS
-    return plain(title) in DEATHS or bool(words) and words.isdisjoint(KNOWN_SALES)
+    return plain(title) in DEATHS or is_cross_title(title) or bool(words) and words.isdisjoint(KNOWN_SALES)

@@ -6,7 +6,7 @@ from dataclasses import dataclass
 
 from gudokeyi.domain.findings import Suggestion
 from gudokeyi.domain.kinds import Field
-from gudokeyi.domain.wording import Counted, Joined, OptionalPart
+from gudokeyi.domain.wording import Counted, Joined, OptionalPart, Quoted
 from gudokeyi.ingest.findings.columns import SheetFinding, column
 
 
@@ -71,3 +71,27 @@ class OwnersOfOneName(SheetFinding):
         "the owners' first names, move that column to right after '{title}'",
         "count",
     )
+
+
+@dataclass(frozen=True, slots=True)
+class OwnersInTurnRead(SheetFinding):
+    """Rows in which later owners stand behind the first ones: the titles of the columns, how many rows, and the first
+    of these owners."""
+
+    title: str
+    beside: tuple[str, ...]
+    count: int
+    line: int
+    text: str
+
+    code = "owners in turn"
+    message = Counted(
+        "{count} row has a later owner behind '{title}', '{text}' in line {line} in {titles}: the last one in the row "
+        "is the owner of now",
+        "{count} rows have later owners behind '{title}', in {titles}, the first '{text}' in line {line}: the last one "
+        "in each row is the owner of now",
+        "count",
+    )
+
+    def values(self) -> Mapping[str, object]:
+        return {"titles": Quoted(self.beside)}
