@@ -32,8 +32,8 @@ from gudokeyi.ingest.parents_beside import tell_parents_beside, tell_parents_fro
 from gudokeyi.ingest.remarks import telling_castrations, telling_exits
 from gudokeyi.ingest.sheets import Sheet
 from gudokeyi.ingest.titles import (
-    KNOWN_DOUBTFUL, KNOWN_DOUBTFUL_DAYS, KNOWN_DOUBTFUL_NAMES, KNOWN_REASONS, KNOWN_STATES, KNOWN_TITLES, NEEDED, TITLES, known_titles,
-    names_both_sexes, names_exits_alone, said_of,
+    KNOWN_DOUBTFUL, KNOWN_DOUBTFUL_DAYS, KNOWN_DOUBTFUL_NAMES, KNOWN_REASONS, KNOWN_STATES, KNOWN_TITLES, NEEDED,
+    TITLES, known_titles, names_both_sexes, names_exits_alone, said_of,
 )  # fmt: skip
 from gudokeyi.ingest.texts import plain
 from gudokeyi.ingest.words import (
