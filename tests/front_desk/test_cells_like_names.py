@@ -107,7 +107,8 @@ def test_sex_words(text: str, wanted: tuple[str, bool, str]) -> None:
     "words, wanted",
     [
         (("ânesse", "Eselin", "Häsin", "jennet", "spayed"), "FFFFF"), (("Rammler", "maennlich"), "MM"),
-        (("1,0", "0,1"), "MF"), (("1/0", "0/1"), "MF"), (("1.0", "0.1"), "MF"), (("1.0", "2.0"), "  "), (("1,0", "2,0"), "  "),
+        (("1,0", "0,1"), "MF"), (("1/0", "0/1"), "MF"), (("1.0", "0.1"), "MF"), (("1.0", "2.0"), "  "),
+        (("1,0", "2,0"), "  "),
     ],
 )  # fmt: skip
 def test_more_sex_words(words: tuple[str, ...], wanted: str) -> None:

@@ -26,7 +26,8 @@ def test_letters(desk: Desk, sex: str, sire: str, dam: str) -> None:
 
 def test_other_letters(desk: Desk) -> None:
     """Columns with such titles that aren't proved, as where the parents have the other sex, are named in the advice."""
-    sheet = desk.write("sheet.csv", TITLES.format(sex="G", sire="V", dam="M") + FOUNDERS + YOUNG.replace("101;10", "102;10"))
+    young = YOUNG.replace("101;10", "102;10")
+    sheet = desk.write("sheet.csv", TITLES.format(sex="G", sire="V", dam="M") + FOUNDERS + young)
     done = desk.run("import", sheet)
     assert done.status == 1 and "no column for sire or dam is found" in done.err
     assert done.commands()[0].endswith("--columns sire=V,dam=M"), done

@@ -19,8 +19,11 @@ def names(desk: Desk) -> set[str]:
 
 @pytest.mark.parametrize(
     "title",
-    ["Pedigree Name", "Registered Name", "Animal Name", "Full Name", "Nom d'élevage", "Zuchtname", "Vollname", "Herdbook name"],
-)
+    [
+        "Pedigree Name", "Registered Name", "Animal Name", "Full Name", "Nom d'élevage", "Zuchtname", "Vollname",
+        "Herdbook name",
+    ],
+)  # fmt: skip
 def test_titles_of_names(desk: Desk, title: str) -> None:
     done = desk.take(COWS.format(title=title, beside="Owner"))
     assert "Kilmorna Rose" in names(desk) and f"name from '{title}'" in done.told
@@ -43,8 +46,12 @@ def test_column_that_looks_so(desk: Desk, title: str) -> None:
 
 
 @pytest.mark.parametrize(
-    "title, beside", [("Breeder's name", "Owner"), ("Name of dam's sire", "Owner"), ("Zwingername", "Owner"), ("Colour", "Name of line")]
-)
+    "title, beside",
+    [
+        ("Breeder's name", "Owner"), ("Name of dam's sire", "Owner"), ("Zwingername", "Owner"), ("Colour", "Name of line"),
+        ("Name des Züchters", "Owner"), ("Züchtersname", "Owner"), ("Name und Adresse", "Owner"),
+    ],
+)  # fmt: skip
 def test_names_of_others(desk: Desk, title: str, beside: str) -> None:
     """Names of people and of other animals aren't told, nor those that stand in several rows."""
     assert "nothing is read as name" not in desk.take(COWS.format(title=title, beside=beside)).told

@@ -1,5 +1,5 @@
-"""The look at a sheet whose columns have letters for titles, and days without signs: it says in three languages how they
-are read."""
+"""The look at a sheet whose columns have letters for titles, and days without signs: it says in three languages how
+they are read."""
 from __future__ import annotations
 
 import pytest

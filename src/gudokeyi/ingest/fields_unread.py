@@ -34,7 +34,8 @@ def tell_unread_fields(columns: Columns, named: Mapping[str, str]) -> None:
     for name, look in looks.items():
         if name in columns.found or named.get(name) == "":
             continue
-        for at in [at for at, title in enumerate(columns.sheet.titles) if title and columns.is_free(at)][:MOST_COMPARED]:
+        free = [at for at, title in enumerate(columns.sheet.titles) if title and columns.is_free(at)]
+        for at in free[:MOST_COMPARED]:
             cells = columns.counts(at)
             least = 1 if plain(columns.title(at)) in KNOWN_BUYERS else SOME
             is_some = cells.total() >= least and (len(cells) <= MOST_DIFFERENT or name is Field.NAME)
@@ -63,19 +64,22 @@ NAMES = re.compile(r"(?P<before>.*?)s?(?:name|names|nom|noms)")
 # whose names no animal has, and what stands before a name of a person
 OF_OTHERS = KNOWN_PAIRS[Field.SIRE] | KNOWN_PAIRS[Field.DAM] | {
     plain(word) for word in listed(
-        "owner, owners, keeper, keepers, breeder, breeders, member, members, buyer, buyers, contact, farm, herd, flock, "
-        "holding, kennel, stud, prefix, affix, club, society, sire, sires, dam, dams, father, fathers, mother, mothers, "
-        "grandsire, granddam, grandfather, grandmother, first, last, family, middle, given, fore, sur, user, file, vet, "
-        "judge, breed, place, town, Besitzer, Eigentümer, Halter, Tierhalter, Züchter, Mitglied, Käufer, Betrieb, Hof, "
-        "Stall, Zwinger, Verein, Vater, Mutter, V, M, Vor, Nach, Familien, Zu, Rasse, Rassen, Ort, Herden, Datei, Richter, "
-        "Tierarzt, propriétaire, détenteur, éleveur, naisseur, adhérent, acheteur, élevage, exploitation, troupeau, "
-        "affixe, père, mère, pré, famille, race, lieu, commune, vétérinaire, juge"
+        "owner, owners, keeper, keepers, breeder, breeders, member, members, buyer, buyers, contact, farm, herd, "
+        "flock, holding, kennel, stud, prefix, affix, club, society, sire, sires, dam, dams, father, fathers, mother, "
+        "mothers, grandsire, granddam, grandfather, grandmother, first, last, family, middle, given, fore, sur, user, "
+        "file, vet, judge, breed, place, town, Besitzer, Eigentümer, Halter, Tierhalter, Züchter, Mitglied, Käufer, "
+        "Betrieb, Hof, Stall, Zwinger, Verein, Vater, Mutter, V, M, Vor, Nach, Familien, Zu, Rasse, Rassen, Ort, "
+        "Herden, Datei, Richter, Tierarzt, propriétaire, détenteur, éleveur, naisseur, adhérent, acheteur, élevage, "
+        "exploitation, troupeau, affixe, père, mère, pré, famille, race, lieu, commune, vétérinaire, juge, Vaters, "
+        "Mutters, Besitzers, Eigentümers, Halters, Züchters, Käufers, Großvater, Großmutter, VV, VM, MV, MM, PGS, "
+        "PGD, MGS, MGD, donor, recipient, Spender, Empfänger, donneuse, receveuse, address, Adresse, Anschrift, "
+        "phone, Telefon, téléphone"
     )
 }  # fmt: skip
 
 
 def looks_like_names(title: str, cells: collections.Counter[str]) -> bool:
-    """Is it one of names that are animals' own, as `Name of the mare`?"""
+    """Is it one of names that are animals' own, as `Name (as in the pedigree)`?"""
     words = [plain(word) for word in BETWEEN_WORDS.split(title)]
     named = [found["before"] for word in words if (found := NAMES.fullmatch(word))]
     return bool(named) and OF_OTHERS.isdisjoint([*words, *named]) and are_names(cells)

@@ -139,9 +139,9 @@ BETWEEN_DASHES = {
     for one, other in itertools.product(DASHES, DASHES) for blank in ("", " ") for mark in (*QUOTES, *WORDS_BETWEEN)
 }  # fmt: skip
 DITTO = {*QUOTES} | SEVERAL_QUOTES | BETWEEN_DASHES | {
-    "dito", "dito.", "detto", "detto.", "dto", "dto.", "dtto", "dtto.", "ditto", "ditto.", "do.", "idem", "idem.", "id.",
-    "s.o.", "s. o.", "s.o", "s. oben", "siehe oben", "w.o.", "w. o.", "w.o", "w. oben", "wie oben", "wie vor", "wie zuvor",
-    "wie vorher", "wie darüber", "ebenso", "ebenfalls", "ebd.", "gleich", "gleich wie oben", "gleiche", "gleicher",
+    "dito", "dito.", "detto", "detto.", "dto", "dto.", "dtto", "dtto.", "ditto", "ditto.", "do.", "idem", "idem.",
+    "id.", "s.o.", "s. o.", "s.o", "s. oben", "siehe oben", "w.o.", "w. o.", "w.o", "w. oben", "wie oben", "wie vor",
+    "wie zuvor", "wie vorher", "wie darüber", "ebenso", "ebenfalls", "ebd.", "gleich", "gleich wie oben", "gleiche", "gleicher",
     "der gleiche", "die gleiche", "derselbe", "dieselbe", "dasselbe", "desgl.", "desgleichen",
     "as above", "see above", "same", "the same", "same as above", "the same as above",
     "ci-dessus", "voir ci-dessus", "cf. ci-dessus", "comme ci-dessus", "idem ci-dessus", "comme au-dessus",

@@ -80,7 +80,7 @@ class Sexes:
         self.counted = {text: COUNTED_SEXES[text] for text in counted if is_counted and sex_word(text) not in given}
         self.short = self.short_words(texts)
         # the column's words for animals of either sex, for which a short form may stand too
-        self.of_either_sex = {word for text in {*texts} if (word := sex_word(text)) in KNOWN_OF_EITHER_SEX - given.keys()}
+        self.of_either_sex = {*map(sex_word, {*texts})} & KNOWN_OF_EITHER_SEX - given.keys()
         # what single letters mean in this column, whatever they mean in others
         self.letters = self.letters_of_three({sex_word(text) for text in {*texts}}, given)
         self.letter: LetterRead | None = None

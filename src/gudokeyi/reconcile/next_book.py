@@ -55,7 +55,8 @@ class Meanings:
             return days_of(exit.day, text) if exit else ""
         if field is Field.SEX:
             word = sex_word(text)
-            return (KNOWN_SEXES[word], word in KNOWN_CASTRATED | KNOWN_CASTRATED_SHORT) if word in KNOWN_SEXES else clean(text)
+            is_castrated = word in KNOWN_CASTRATED or word in KNOWN_CASTRATED_SHORT
+            return (KNOWN_SEXES[word], is_castrated) if word in KNOWN_SEXES else clean(text)
         return text.casefold() in KNOWN_YES if field is Field.EMBRYO else clean(text)
 
     def parent(self, offspring: str, text: str, role: Role) -> str:

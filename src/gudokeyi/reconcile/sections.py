@@ -30,7 +30,8 @@ SEXES = {sex_word(word): sex for sex, words in SEVERAL.items() for word in liste
 # words that are those of a species too: they say a sex where another row says the other one
 OF_SPECIES = {
     plain(word) for word in listed(
-        "dogs, dog, Ziegen, Ziege, cows, cow, Katze, Hund, Esel, Pute, chien, chèvres, chèvre, âne, chat, lapin, dinde, poule"
+        "dogs, dog, Ziegen, Ziege, cows, cow, Katze, Hund, Esel, Pute, chien, chèvres, chèvre, âne, chat, lapin, dinde, "
+        "poule"
     )
 }  # fmt: skip
 # a word of fewer letters may be short for anything
