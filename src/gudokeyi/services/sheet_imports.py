@@ -302,8 +302,10 @@ def remember_places(book: Book, read: ReadSheet, import_options: ImportOptions, 
 def leave_known_days(read: ReadSheet, own: OwnSheetColumns, report: Report) -> None:
     """Days that the society keeps as a column of its own aren't told as what may be exits, or owners' first days."""
     kept = {read.sheet.titles[at] for at in own.places.values()}
-    those = MayBeExits | EntryDaysUnread
-    entries = [one for one in report.entries if isinstance(one.finding, those) and one.finding.title in kept]
+    entries = [
+        one for one in report.entries
+        if isinstance(one.finding, MayBeExits | EntryDaysUnread) and one.finding.title in kept
+    ]  # fmt: skip
     for one in entries:
         report.entries.remove(one)
 
