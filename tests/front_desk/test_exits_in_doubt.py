@@ -22,8 +22,8 @@ def taken(desk: Desk, text: str) -> str:
     "text",
     [
         f"sortie prévue 3/4/{(YEAR + 1) % 100}", f"sortie prévue 3/4/{YEAR + 1}", f"Verkauf geplant 3.4.{(YEAR + 1) % 100}",
-        f"planned sale 3/4/{YEAR + 1}", "vente prévue", "soll geschlachtet werden", "to be culled",
-        "piroplasmose 3/4/2022, guérie", "lahm 3.4.2022, geheilt", "mastitis 3/4/2022, recovered",
+        f"planned sale 3/4/{YEAR + 1}", "vente prévue", "soll geschlachtet werden", "soll heuer weg", "to be culled",
+        "due 3/4/2022", "piroplasmose 3/4/2022, guérie", "lahm 3.4.2022, geheilt", "mastitis 3/4/2022, recovered",
     ],
 )  # fmt: skip
 def test_no_exits(desk: Desk, text: str) -> None:
@@ -56,8 +56,12 @@ def test_other_exits_after_today(desk: Desk, text: str) -> None:
 
 
 @pytest.mark.parametrize(
-    "text", ["vendu mais toujours chez nous", "verkauft 3.4.2022, noch nicht abgeholt", "sold 3/4/2022 but still here"]
-)
+    "text",
+    [
+        "vendu mais toujours chez nous", "verkauft 3.4.2022, noch nicht abgeholt", "sold 3/4/2022 but still here",
+        "verk., bleibt bis Jänner",
+    ],
+)  # fmt: skip
 def test_still_there(desk: Desk, text: str) -> None:
     """An exit after which the animal is said to be there isn't sure."""
     assert f"a3: to look at: '{text}' tells of an exit that isn't sure" in taken(desk, text) and left(desk, "a3")

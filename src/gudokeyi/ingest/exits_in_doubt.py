@@ -10,12 +10,12 @@ from gudokeyi.ingest.words import DEAD, KNOWN_DEATHS, KNOWN_RETURNS, TELLING_EXI
 THERE_YET = (
     "noch da, noch hier, noch bei uns, noch bei mir, noch im Stall, noch nicht abgeholt, still here, still there, still with "
     "us, still on farm, not yet collected, toujours chez nous, encore chez nous, toujours là, toujours ici, encore là, "
-    "encore ici, pas encore parti, pas encore partie"
+    "encore ici, pas encore parti, pas encore partie, bleibt bis, bleibt noch, stays until, reste jusqu"
 )
 KNOWN_THERE = KNOWN_RETURNS | {plain(word) for word in listed(THERE_YET)}
 PLANNED = re.compile(
     r"\b(?:prévue?s?|planned|scheduled|geplante?[rs]?|vorgesehen|voraussichtlich\w*|will be|going to be|"
-    r"to be (?:sold|culled|slaughtered|exported|rehomed)|(?:soll|sollen)\b.*\bwerden|à (?:abattre|réformer))\b",
+    r"to be (?:sold|culled|slaughtered|exported|rehomed)|(?:soll|sollen)\b.*\b(?:werden|weg)|à (?:abattre|réformer))\b",
     re.IGNORECASE,
 )
 

@@ -172,7 +172,7 @@ STILL_THERE = (
 # the same of animals that came, are still there, or were looked at
 OTHER_EVENTS = (
     "noch da, noch hier, wieder da, still here, still there, toujours là, toujours ici, encore là, Zugang, zugekauft, "
-    "Zukauf, gekauft, gek, angekauft, Ankauf, gekört, Körung, eingetragen, bought, purchased, registered, acheté, "
+    "Zukauf, gekauft, gek, angekauft, Ankauf, gekört, Körung, eingetragen, bought, purchased, registered, due, acheté, "
     "achetée, achat, inscrit, inscrite"
 )
 # words that tell that an animal came back

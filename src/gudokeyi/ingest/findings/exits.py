@@ -236,5 +236,5 @@ def told_of_remarks(remarks: Sequence[Remark]) -> list[NoExits]:
     in_doubt = [has_day(one.text) and not (is_still_there(one.text) or state_exit(one.text)) for one in remarks]
     known = [one for one, is_one in zip(remarks, in_doubt) if not is_one]
     unknown = [one for one, is_one in zip(remarks, in_doubt) if is_one]
-    kinds: list[tuple[type[NoExits], list[Remark]]] = [(StatesInDoubt, unknown), (NoExits, known)]
+    kinds: tuple[tuple[type[NoExits], list[Remark]], ...] = ((StatesInDoubt, unknown), (NoExits, known))
     return [kind.of(those) for kind, those in kinds if those]
