@@ -114,6 +114,8 @@ PAIRS = {
     Field.DAM: "bitch, mare, ewe, doe, nanny, cow, sow, Hündin, Stute, Aue, Ziege, Geiß, Kuh, Sau, Kätzin, Häsin, "
     "jument, brebis, chèvre, vache, truie, chienne",
 }  # fmt: skip
+# titles that say so of the column of exits before or behind which they stand
+CAUSES = "Grund, Ursache, reason, cause, motif, raison"
 # titles whose columns may have something else than exits
 DOUBTFUL_EXITS = (
     "Verbleib, fate, whereabouts, disposal, devenir, status, Tierstatus, statut, état, Zustand, Lebensstatus, "
@@ -162,6 +164,7 @@ NAMING_PARENTS = {title for role, pairs in KNOWN_PAIRS.items() for title in KNOW
 KNOWN_DOUBTFUL = {plain(title) for title in listed(DOUBTFUL_EXITS)}
 KNOWN_DOUBTFUL_DAYS = {plain(title) for title in listed(DOUBTFUL_DAYS)}
 KNOWN_STATUSES, KNOWN_REASONS = {*KNOWN_TITLES[Field.STATUS]}, {plain(title) for title in listed(REASONS)}
+KNOWN_CAUSES = {plain(title) for title in listed(CAUSES)}
 # columns in which yes is said of the living, with what stands before the title where no is said
 OF_LIVING = {
     plain(title): negation
