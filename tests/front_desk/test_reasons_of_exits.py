@@ -339,3 +339,37 @@ def test_word_beside_a_day_and_a_status(desk: Desk) -> None:
 )  # fmt: skip
 def test_words_beside_a_day(text: str, words: str) -> None:
     assert words_beside(text) == words
+
+
+# -- causes next to days of exits
+
+CAUSES = "Nr;Nom;Sexe;Né le;Père;Mère;Propriétaire;{}\nA1;Oscar;m;13.4.2009;;;Leroy;{}\nA2;Perle;f;13.8.2015;;;Duval;{}\n"
+
+
+@pytest.mark.parametrize(
+    "titles, cells",
+    [
+        ("Date de sortie;Motif", "5.6.2023;prêt"), ("Date de sortie;Motif", "2024;castration"),
+        ("Grund;Abgang", "Impfung;5.6.2023"), ("Exit date;Reason", "5.6.2023;shearing"),
+    ],
+)
+def test_causes_that_are_no_exits(desk: Desk, titles: str, cells: str) -> None:
+    """The animal stays, which is told; a cause of an exit is kept."""
+    first = "mort;1.2.2020" if titles.startswith("Grund") else "1.2.2020;mort"
+    sheet = CAUSES.format(titles, first, cells)
+    done = desk.take(sheet)
+    assert "tells of something else than an exit, in line 3: " in done.out and "not read" not in done.out
+    assert reason(desk, "A1") == ("2020-02-01", "mort") and reason(desk, "A2")[0] == ""
+    assert " 0 changed" in desk.take(sheet).last
+
+
+@pytest.mark.parametrize("cause", ["changement de propriétaire", "Besitzerwechsel", "change of ownership", "transfert"])
+def test_changes_of_owners_as_causes(desk: Desk, cause: str) -> None:
+    """One to an owner of the list is a transfer; of another it is told that the animal counts as gone."""
+    sheet = CAUSES.format("Date de sortie;Motif;Destination", "1.2.2020;mort;équarrissage", "5.6.2022;{};{}")
+    done = desk.take(sheet.format(cause, "Leroy"))
+    assert f"owner Leroy, before Duval: '{cause} à Leroy 5.6.2022' names an owner of the society" in done.told
+    assert reason(desk, "A2")[0] == "" and reason(desk, "A1") == ("2020-02-01", "mort")
+    for buyer in ("Roux", ""):
+        done = desk.take(sheet.format(cause, buyer), "--book", "book")
+        assert "words that tell of no exit stands in 1 of 2 cells" in done.told and f"in line 3: '{cause}" in done.told

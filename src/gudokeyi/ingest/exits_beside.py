@@ -19,11 +19,12 @@ from gudokeyi.ingest.findings.rows import StatusDisagrees
 from gudokeyi.ingest.sheets import Sheet, SheetRow, cell_of
 from gudokeyi.ingest.texts import listed, plain
 from gudokeyi.ingest.titles import (
-    BETWEEN_WORDS, DEATHS, KNOWN_DOUBTFUL, KNOWN_TITLES, SALE_DAYS, is_cross_title, names_exit_days, names_other_exits, said_of,
+    BETWEEN_WORDS, DEATHS, KNOWN_CAUSES, KNOWN_DOUBTFUL, KNOWN_REASONS, KNOWN_TITLES, SALE_DAYS, is_cross_title,
+    names_exit_days, names_other_exits, said_of,
 )  # fmt: skip
 from gudokeyi.ingest.words import (
     KNOWN_EXITS, KNOWN_NO, KNOWN_SALES, KNOWN_YES, LETTER, PLAIN_EXITS, exit_word, has_word, is_still_there, lives,
-    says_lives, tells_of_others,
+    owner_change, says_lives, tells_of_others,
 )  # fmt: skip
 
 # titles of columns that say to whom animals were sold, by how the cell of an exit says so
@@ -33,9 +34,12 @@ BUYERS = {
     "sold to": "sold to, buyer, purchaser, bought by, purchased by, new owner",
     "vendu à": "vendu à, vendue à, vendu(e) à, acheteur, acheteuse, acquéreur, nouveau propriétaire",
 }
+# titles of columns that say so beside sales and changes of owners alone
+DESTINATIONS = {plain(title) for title in listed("Destination, destinataire")}
 # so many texts show whether a column has days
 MOST_TEXTS = 500
 KNOWN_BUYERS = {plain(title): said for said, titles in BUYERS.items() for title in listed(titles)}
+SAID_OF_BUYERS = KNOWN_BUYERS | dict.fromkeys(DESTINATIONS, "vendu à")
 
 
 @dataclass
@@ -73,13 +77,25 @@ def buyer_columns(sheet: Sheet, columns: Mapping[str, int]) -> list[int]:
     """The column that isn't read, and says to whom animals were sold."""
     if Field.EXIT not in columns:
         return []
-    titles = enumerate(sheet.titles)
-    return [at for at, title in titles if at not in columns.values() and plain(title) in KNOWN_BUYERS][:1]
+    free = [(at, plain(title)) for at, title in enumerate(sheet.titles) if at not in columns.values()]
+    return [at for known in (KNOWN_BUYERS, DESTINATIONS) for at, title in free if title in known][:1]
+
+
+def reasons_beside(titles: Sequence[str], columns: Mapping[str, int]) -> list[int]:
+    """The place of a column that says why animals left, beside another one that is read as the status, or next to that
+    of the exits where none is."""
+    free = [at for at in range(len(titles)) if at not in columns.values()]
+    if Field.STATUS in columns:
+        return [at for at in free if plain(titles[at]) in KNOWN_REASONS][:1]
+    exit_at = columns.get(Field.EXIT, 0)
+    is_sure = Field.EXIT in columns and plain(titles[exit_at]) not in KNOWN_DOUBTFUL
+    return [at for at in free if is_sure and abs(at - exit_at) == 1 and plain(titles[at]) in KNOWN_CAUSES][:1]
 
 
 def columns_beside(sheet: Sheet, columns: Mapping[str, int]) -> list[int]:
     """All of these."""
-    return [*exit_day_columns(sheet, columns), *buyer_columns(sheet, columns)]
+    reasons = reasons_beside(sheet.titles, columns)
+    return [*exit_day_columns(sheet, columns), *buyer_columns(sheet, columns), *reasons]
 
 
 def tells_exits(texts: list[str], word: str) -> bool:
@@ -229,7 +245,8 @@ class Buyers:
     def __init__(self, sheet: Sheet, columns: Mapping[str, int], unknown: Container[str], at: int) -> None:
         self.titles, self.columns, self.unknown, self.at = sheet.titles, columns, unknown, at
         self.exit, self.owner = columns[Field.EXIT], columns.get(Field.OWNER, at)
-        self.said = KNOWN_BUYERS[plain(sheet.titles[at])]
+        self.said = SAID_OF_BUYERS[plain(sheet.titles[at])]
+        self.is_destination = plain(sheet.titles[at]) in DESTINATIONS
         # the same texts stand in many cells
         self.is_there = functools.cache(is_there)
         self.of_sales = [
@@ -247,12 +264,13 @@ class Buyers:
             exit = "" if exit in self.unknown else exit
             reason = exits.reasons.get(row.line, "")
             if (at := self.column_of_living(row, exit)) is not None:
-                self.tell(row, at, report)
+                if not self.is_destination:
+                    self.tell(row, at, report)
             elif self.may_be_sale(exit, reason):
                 exits.texts[place] = self.text(exit, buyer)
                 exits.reasons.pop(row.line, None)
                 count += 1
-            elif day := self.day_of_sale(row):
+            elif not self.is_destination and (day := self.day_of_sale(row)):
                 exits.sales[row.line] = f"{self.said} {buyer} {day}"
         if count:
             report.add(0, "", BuyersRead(self.titles[self.at], count))
@@ -285,11 +303,15 @@ class Buyers:
             return plain(reason) in KNOWN_SALES
         if exit and names_other_exits(self.titles[self.exit]):
             return False
-        word = exit_word(exit)
+        if self.is_destination and not exit_word(exit) and not owner_change(exit):
+            return False
+        word = exit_word(exit) or owner_change(exit)
+        if word and owner_change(exit):
+            return not has_more(exit, word)
         return not LETTER.search(exit) or is_span(exit) or plain(word) in KNOWN_SALES and not has_more(exit, word)
 
     def text(self, exit: str, buyer: str) -> str:
-        word = exit_word(exit)
+        word = exit_word(exit) or owner_change(exit)
         said = f"{word} {self.said.rpartition(' ')[2]}" if word else self.said
         return f"{said} {buyer} {exit.replace(word, '', 1).strip()}".strip()
 

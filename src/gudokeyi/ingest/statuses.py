@@ -12,22 +12,24 @@ from gudokeyi.domain.kinds import Field
 from gudokeyi.ingest.born_dead import born_dead_word
 from gudokeyi.ingest.day_cells import is_other_state
 from gudokeyi.ingest.days import is_span, places_within
-from gudokeyi.ingest.exits_beside import Exits, add_buyers, add_exit_days, add_sales_to
+from gudokeyi.ingest.exits_beside import Exits, add_buyers, add_exit_days, add_sales_to, reasons_beside
 from gudokeyi.ingest.findings.exits import Remark, told_of_remarks
 from gudokeyi.ingest.findings.rows import StatusDisagrees, StatusRead
 from gudokeyi.ingest.sheets import Sheet, SheetRow, cell_of, column_of
 from gudokeyi.ingest.texts import listed, plain
 from gudokeyi.ingest.titles import (
-    KNOWN_REASONS, KNOWN_STATES, KNOWN_STATUSES, OF_LIVING, names_exits_alone, names_other_exits, said_of,
+    KNOWN_STATES, KNOWN_STATUSES, OF_LIVING, names_exits_alone, names_other_exits, said_of,
 )  # fmt: skip
 from gudokeyi.ingest.words import (
-    DEAD, EXITS, KNOWN_DEATHS, KNOWN_YES, PLAIN_EXITS, has_word, is_still_there, lives, lives_besides, says_lives,
-    state_exit, tells_of_others,
+    DEAD, EXITS, KNOWN_DEATHS, KNOWN_YES, PLAIN_EXITS, has_word, is_still_there, lives, lives_besides, owner_change,
+    says_lives, state_exit, tells_of_others,
 )  # fmt: skip
 
 # an owner who takes an animal
 TAKER = re.compile(
     r"\b(?:verkauft|verkauf|verk|abgegeben|weggegeben|verschenkt|umgestellt|gewechselt|geht|ging|sold|sale|transferred|"
+    r"(?:Besitz(?:er)?|Halter|Eigentümer|Eigentums)wechsel|changement\sde\s(?:propriétaire|détenteur)|"
+    r"change\sof\sowner(?:ship)?|mutation|transfert?|cession|"
     r"given|went|vendue?|vente|cédée?|donnée?)\b\.?"
     r".*?\b(?:an|zu|to|à|a|au|aux)\s+(?P<taker>\S.*)",
     re.IGNORECASE,
@@ -149,7 +151,9 @@ class Statuses:
         says_exit = bool(exit) and self.says_exit(exit)
         if says_exit and said.tells and said.has_taker and self.may_be_sales:
             self.found.texts[place] = f"{said.text} {exit}"
-        if says_exit and said.is_reason:
+        if says_exit and owner_change(said.text) and is_span(exit):
+            self.found.texts[place] = f"{said.text} {exit}"
+        elif says_exit and said.is_reason:
             self.found.reasons[row.line] = said.text
         elif says_exit and said.is_still_there:
             self.look_at_no_exit(place, row, exit, said.text)
@@ -206,10 +210,10 @@ def exits_said(
     at = columns[Field.EXIT]
     if Field.STATUS in columns:
         exits = Statuses(sheet, columns, unknown, report).find(rows)
-        for of_reasons in reasons_beside(sheet.titles, columns):
-            add_reasons(exits, rows, of_reasons, at, unknown)
     else:
         exits = Exits(exits_of_living(rows, sheet.titles[at], at))
+    for of_reasons in reasons_beside(sheet.titles, columns):
+        add_reasons(exits, rows, of_reasons, at, unknown)
     add_yes(exits, rows, sheet.titles[at], at)
     add_days_of_sales(exits, rows, sheet.titles, columns)
     add_sales_to(exits, rows, sheet, at, unknown)
@@ -246,10 +250,9 @@ def add_days_of_sales(exits: Exits, rows: list[SheetRow], titles: Sequence[str],
             exits.texts[place] = f"{said if is_of_others else exit} {day}".strip()
 
 
-def reasons_beside(titles: Sequence[str], columns: Mapping[str, int]) -> list[int]:
-    """The place of a column that says why animals left, beside another one that is read as the status."""
-    read = {*columns.values()} if Field.STATUS in columns else {*range(len(titles))}
-    return [at for at, title in enumerate(titles) if at not in read and plain(title) in KNOWN_REASONS][:1]
+def is_other_event(reason: str) -> bool:
+    """Tells it of no exit, or of one that may be none, as a change of owners?"""
+    return is_still_there(reason) or bool(owner_change(reason))
 
 
 def add_reasons(exits: Exits, rows: list[SheetRow], of_reasons: int, at: int, unknown: Container[str]) -> None:
@@ -259,7 +262,7 @@ def add_reasons(exits: Exits, rows: list[SheetRow], of_reasons: int, at: int, un
         reason = cell_of(row, of_reasons)
         exit = exits.texts.get(place) or cell_of(row, at)
         is_said = bool(reason) and says(reason) and says(exit)
-        if is_said and is_still_there(reason) and not tells_of_others(reason) and is_span(exit):
+        if is_said and is_other_event(reason) and not tells_of_others(reason) and is_span(exit):
             exits.texts[place] = f"{reason} {exit}"
         elif is_said:
             exits.reasons[row.line] = reason

@@ -116,6 +116,8 @@ PAIRS = {
     Field.DAM: "bitch, mare, ewe, doe, nanny, cow, sow, Hündin, Stute, Aue, Ziege, Geiß, Kuh, Sau, Kätzin, Häsin, "
     "jument, brebis, chèvre, vache, truie, chienne",
 }  # fmt: skip
+# titles that say so of the column of exits before or behind which they stand
+CAUSES = "Grund, Ursache, reason, cause, motif, raison"
 # titles whose columns may have something else than exits
 DOUBTFUL_EXITS = (
     "Verbleib, fate, whereabouts, disposal, devenir, status, Tierstatus, statut, état, Zustand, Lebensstatus, "
@@ -167,6 +169,7 @@ KNOWN_DOUBTFUL = {plain(title) for title in listed(DOUBTFUL_EXITS)}
 KNOWN_DOUBTFUL_NAMES = {plain(title) for title in listed(DOUBTFUL_NAMES)}
 KNOWN_DOUBTFUL_DAYS = {plain(title) for title in listed(DOUBTFUL_DAYS)}
 KNOWN_STATUSES, KNOWN_REASONS = {*KNOWN_TITLES[Field.STATUS]}, {plain(title) for title in listed(REASONS)}
+KNOWN_CAUSES = {plain(title) for title in listed(CAUSES)}
 # columns in which yes is said of the living, with what stands before the title where no is said
 OF_LIVING = {
     plain(title): negation

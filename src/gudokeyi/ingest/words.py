@@ -156,16 +156,18 @@ AROUND_EXITS = (
 STILL_THERE = (
     "retired, retirement, pensioned, in retirement, loaned, on loan, lent, leased, on lease, leased out, castrated, "
     "gelded, neutered, spayed, covered, served, mated, inseminated, bred, pregnant, in foal, in calf, in lamb, in kid, "
-    "weaned, vaccinated, shorn, chipped, returned, came back, for sale, reserved, exhibited, "
+    "weaned, vaccinated, vaccination, shorn, shearing, castration, loan, chipped, returned, came back, for sale, reserved, "
+    "exhibited, "
     "Zuchtruhe, im Ruhestand, Ruhestand, Rente, in Rente, Rentner, Gnadenbrot, in Pension, Pension, Pensionsstall, "
     "verliehen, ausgeliehen, Leihgabe, Leihe, geliehen, verpachtet, kastriert, kastr, Kastration, sterilisiert, "
-    "gedeckt, belegt, besamt, Besamung, Deckeinsatz, Bedeckung, trächtig, tragend, abgesetzt, geimpft, entwurmt, gesperrt, "
-    "ausgestellt, geschoren, gechipt, zurück, zurückgekommen, zurückgekehrt, zu verkaufen, zu verk, reserviert, "
-    "retraité, retraitée, retraite, à la retraite, en retraite, mis à la retraite, en pension, mis en pension, prêté, "
-    "prêtée, prêt, en prêt, loué, louée, castré, castrée, castration, stérilisé, stérilisée, saillie, sailli, saillies, "
-    "couverte, inséminé, inséminée, insémination, gestante, pleine, gravide, sevré, sevrée, vacciné, vaccinée, tondu, "
-    "tondue, pucé, pucée, revenu, revenue, de retour, retour, à vendre, en vente, réservé, réservée, exposé, exposée, "
-    "geheilt, ausgeheilt, genesen, gesund, healed, recovered, cured, guéri, guérie, rétabli, rétablie, "
+    "gedeckt, belegt, besamt, Besamung, Deckeinsatz, Bedeckung, trächtig, tragend, abgesetzt, geimpft, Impfung, Schur, "
+    "entwurmt, gesperrt, ausgestellt, geschoren, gechipt, zurück, zurückgekommen, zurückgekehrt, zu verkaufen, zu verk, "
+    "reserviert, retraité, retraitée, retraite, à la retraite, en retraite, mis à la retraite, en pension, mis en pension, "
+    "prêté, prêtée, prêt, en prêt, loué, louée, castré, castrée, castration, stérilisé, stérilisée, saillie, sailli, "
+    "saillies, couverte, inséminé, inséminée, insémination, gestante, pleine, gravide, sevré, sevrée, vacciné, vaccinée, "
+    "vaccination, tondu, tondue, tonte, pucé, pucée, revenu, revenue, de retour, retour, à vendre, en vente, réservé, "
+    "réservée, exposé, exposée, geheilt, ausgeheilt, genesen, gesund, healed, recovered, cured, guéri, guérie, rétabli, "
+    "rétablie, "
     "non-breeding, non breeder, nicht zur Zucht, nicht in Zucht, zuchtuntauglich, zuchtunfähig, zuchtgesperrt, "
     "Zuchtsperre, Zuchtverbot, non reproducteur, non reproductrice, hors reproduction"
 )
@@ -174,6 +176,12 @@ OTHER_EVENTS = (
     "noch da, noch hier, wieder da, still here, still there, toujours là, toujours ici, encore là, Zugang, zugekauft, "
     "Zukauf, gekauft, gek, angekauft, Ankauf, gekört, Körung, eingetragen, bought, purchased, registered, due, acheté, "
     "achetée, achat, inscrit, inscrite"
+)
+# the same of animals that another owner has since
+OWNER_CHANGES = (
+    "changement de propriétaire, changement de détenteur, changement propriétaire, mutation, transfert, cession, "
+    "change of owner, change of ownership, owner change, ownership change, ownership transfer, transfer, transferred, "
+    "Besitzerwechsel, Besitzwechsel, Besitzwechs, Halterwechsel, Eigentümerwechsel, Eigentumswechsel, Wechsel, Umstellung"
 )
 # words that tell that an animal came back
 RETURNS = (
@@ -268,6 +276,7 @@ KNOWN_SHORT_EXITS = {plain(word) for word in listed(SHORT_EXITS)}
 KNOWN_SALES = {plain(word) for word in listed(SALES)}
 KNOWN_AROUND_EXITS = KNOWN_EXITS | {plain(word) for word in listed(AROUND_EXITS)}
 KNOWN_STILL_THERE = {plain(word) for word in listed(STILL_THERE)}
+KNOWN_OWNER_CHANGES = {plain(word) for word in listed(OWNER_CHANGES)}
 KNOWN_NO_EXITS = KNOWN_STILL_THERE | {plain(word) for word in listed(OTHER_EVENTS)}
 KNOWN_RETURNS = {plain(word) for word in listed(RETURNS)}
 KNOWN_NO_PARENTS = {plain(word) for word in listed(NO_PARENTS)}
@@ -477,6 +486,14 @@ def state_exit(text: str) -> str:
         return ""
     known = next((word for word in text.split() if plain(word) in KNOWN_EXITS), "") or first_exit(text)
     return known or (text if says_gone(text) else "") or born_dead_word(text) or place_of_exit(text)
+
+
+def owner_change(text: str) -> str:
+    """The words of a change of owners with which a text begins, as `Besitzerwechsel 3.4.2020`."""
+    if not LETTER.search(text) or has_word(text, TELLING_EXITS):
+        return ""
+    words = text.split()
+    return next((said for at in range(3, 0, -1) if plain(said := " ".join(words[:at])) in KNOWN_OWNER_CHANGES), "")
 
 
 def first_exit(text: str) -> str:

@@ -13,7 +13,7 @@ from gudokeyi.domain.findings import Call, Entry, ImportRefused, Part, Report, S
 from gudokeyi.domain.kinds import Field, Remembered
 from gudokeyi.ingest.births_beside import year_column
 from gudokeyi.ingest.castrations import castration_columns
-from gudokeyi.ingest.exits_beside import columns_beside, exit_day_columns
+from gudokeyi.ingest.exits_beside import columns_beside, exit_day_columns, reasons_beside
 from gudokeyi.ingest.files import GivenFile
 from gudokeyi.ingest.findings.columns import ColumnUntitled, SheetFinding, TitleBelow
 from gudokeyi.ingest.findings.columns_unread import EntryDaysUnread, MayBeExits
@@ -22,7 +22,6 @@ from gudokeyi.ingest.inferred_values import columns_of_inferred_values
 from gudokeyi.ingest.names_for_ids import names_read
 from gudokeyi.ingest.owners_beside import first_names_column
 from gudokeyi.ingest.parents_beside import tell_parents_named_otherwise
-from gudokeyi.ingest.statuses import reasons_beside
 from gudokeyi.ingest.texts import plain
 from gudokeyi.process import keep
 from gudokeyi.reconcile.all_animals import complete
@@ -355,8 +354,7 @@ def places_beside(read: ReadSheet) -> list[int]:
     """The columns that are read beside those of fields."""
     sheet, found = read.sheet, read.columns.found
     beside = [*columns_beside(sheet, found), *year_column(sheet, found), *castration_columns(sheet, found)]
-    beside += [*reasons_beside(sheet.titles, found), *columns_of_inferred_values(sheet, found)]
-    beside += genetic_columns(sheet, found)
+    beside += [*columns_of_inferred_values(sheet, found), *genetic_columns(sheet, found)]
     return [*beside, *names_read(sheet, found, read.rows.unknown)]
 
 
