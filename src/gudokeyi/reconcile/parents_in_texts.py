@@ -289,8 +289,8 @@ class ParentsInTexts:
         return next(filter(None, map(self.ids.get, map(nearly, (part, *bare)))), "")
 
     def named_between(self, text: str, words: Sequence[str]) -> list[str]:
-        """The animals whose ids stand between other words, as in `Max DE001 born 2015`: those that are also named there,
-        or whose ids have letters and no few digits."""
+        """The animals whose ids stand between other words, as in `Max DE001 born 2015`: those that are also named
+        there, or whose ids have letters and no few digits."""
         inner = [words[first:last] for first in range(1, len(words) - 1) for last in range(first + 1, len(words))]
         likely = [part for one in inner if DIGITS.search(part := " ".join(one))]
         found = [id for part in likely if (id := self.id_of(part.strip("()[],")))]
