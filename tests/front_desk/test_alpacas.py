@@ -72,7 +72,7 @@ def test_owners_in_two_ways(desk: Desk) -> None:
     owners += ["P Okafor", "Dr P. Okafor", "Mr A Smith", "Mrs A Smith", "de Vries", "Vries"]
     text = "".join(f"AZV-{at:03};A{at};m;H;1.6.{2000 + at};;;{one}\n" for at, one in enumerate(owners, 1))
     done = desk.take(TITLES + text)
-    way = "differ in the order of first and last name, in a title or an article, or in how Familie or and is written"
+    way = "differ in the order of first and last name, in a title or an article, or in how Familie, Brothers or and is written"
     for pair in "'Müller, Petra' (1 animal) and 'Petra Müller' (1 animal)", "'Fam. Brandt' (1 animal) and 'Familie Brandt' (1 animal)":
         assert f"the owners {pair} {way}" in done.told
     for one, other in ("Lefèvre Jean", "M. Lefèvre Jean"), ("GAEC Bois Joli", "GAEC du Bois Joli"), \

@@ -16,7 +16,7 @@ from gudokeyi.ingest.animals import SheetAnimal
 from gudokeyi.ingest.doubtful_owners import is_no_name
 from gudokeyi.ingest.texts import plain
 from gudokeyi.reconcile.findings.animals import OwnerMistyped, OwnerRespelt, OwnersAlike, OwnersOtherwise, Spelling
-from gudokeyi.reconcile.findings.plausibility import OwnerOfSeveral, OwnerWithInitial, OwnerWithMore
+from gudokeyi.reconcile.findings.plausibility import OwnerOfGeneration, OwnerOfSeveral, OwnerWithInitial, OwnerWithMore
 from gudokeyi.reconcile.next_book import NextBook
 from gudokeyi.reconcile.owner_words import tell_owners_of_like_words
 from gudokeyi.reconcile.owners import (
@@ -144,10 +144,17 @@ def spellings(*owners: str) -> tuple[Spelling, ...]:
     (["Tanguy A.", "Bob Tanguy", "A. Goff", "Tanguy B. A.", "A. B."], set(), []),
     (["Tanguy A.", "Anne Tanguy"], {"Tanguy A.", "Anne Tanguy"}, []),
     (["Tanguy A."], {"Anne Tanguy"}, [OwnerWithInitial("Tanguy A.", ("Anne Tanguy",))]),
+    (["Tanguy A., Ing.", "Ing. Anne Tanguy"], set(), [OwnerWithInitial("Tanguy A., Ing.", ("Ing. Anne Tanguy",))]),
+    (["Mayr Josef", "Mayr Josef jun.", "Sen. Josef Mayr"], set(),
+     [OwnerOfGeneration("Mayr Josef", ("Mayr Josef jun.", "Sen. Josef Mayr"))]),
+    (["Mayr Josef"], {"Mayr Josef jun."}, [OwnerOfGeneration("Mayr Josef", ("Mayr Josef jun.",))]),
+    (["Mayr Josef sen.", "Mayr Josef jun.", "Mayr Franz", "Mayr", "Senior", "Frau Huber Toni", "Hr. Huber Toni sen."],
+     set(), []),
+    ([f"{last} {first}" for last in ("Huber", "Mayr") for first in ("Josef", "Franz", "Maria", "Anna")], set(), []),
 ])  # fmt: skip
 def test_owners_of_like_words(rows: list[str], before: set[str], found: list[Finding]) -> None:
-    """The same words in another order, an initial in place of a first name, and a sign in place of a letter that was
-    lost: neither a man and a woman, nor two of whom the book had both before."""
+    """The same words in another order, an initial in place of a first name, a name without `jun.` that others have, and
+    a sign in place of a letter that was lost: neither a man and a woman, nor two of whom the book had both before."""
     assert report_of(dict.fromkeys(rows, 1), lambda next_book: tell_owners_of_like_words(next_book, before)) == found
 
 
@@ -158,6 +165,34 @@ def test_owners_of_like_words(rows: list[str], before: set[str], found: list[Fin
 def test_titles_beside_more(rows: list[str], is_told: bool) -> None:
     found = report_of(dict.fromkeys(rows, 1), lambda next_book: tell_owners_with_more(next_book, set()))
     assert bool(found) == is_told
+
+
+@pytest.mark.parametrize(("rows", "found"), [
+    (["Pichler", "Fam. Pichler"], [["Fam. Pichler", "Pichler"]]),
+    (["Pichler", "Pichler Fam.", "Familie Pichler"], [["Familie Pichler", "Pichler", "Pichler Fam."]]),
+    (["Kelly Brothers", "Kelly Bros", "Kelly", "Brosnan Kelly"], [["Kelly Bros", "Kelly Brothers"]]),
+    (["Gebr. Huber", "Gebrüder Huber", "Huber"], [["Gebr. Huber", "Gebrüder Huber"]]),
+    (["Moore Ltd.", "Moore Limited", "Moore"], [["Moore Limited", "Moore Ltd."]]),
+    (["Fam. Huber", "Huber Franz", "Fam. Huber Karl", "Familie", "Fam. Pichler"], []),
+])  # fmt: skip
+def test_words_for_families(rows: list[str], found: list[list[str]]) -> None:
+    """A name with such a word and without one, and two forms of one word."""
+    told = report_of(dict.fromkeys(rows, 1), lambda next_book: tell_owners_alike(next_book))
+    spelt = [[one.text for one in finding.spellings] for finding in told if isinstance(finding, OwnersOtherwise)]
+    assert spelt == found
+
+
+def test_generations_in_a_sheet(desk: Desk) -> None:
+    """They stay apart."""
+    owners = ["Mayr Josef", "Mayr Josef sen.", "Mayr Josef jun.", "Ing. Leitner Walter", "Leitner W., Ing."]
+    rows = "".join(f"{at};m;2001-01-01;;;{owner}\n" for at, owner in enumerate(owners, 1))
+    desk.take("id;sex;birth;sire;dam;owner\n" + rows).tells(
+        "to look at: the owner 'Mayr Josef' may be Mayr Josef jun. or Mayr Josef sen., as its name stands without sen. or "
+        "jun.: if they are one, write the name alike in all rows, and take the sheet again",
+        "to look at: the owner 'Leitner W., Ing.' may be Ing. Leitner Walter, whose first name begins so: if they are one, "
+        "write the name alike in all rows, and take the sheet again",
+    )
+    assert len(desk.owners()) == len(owners)
 
 
 def test_owners_of_like_words_in_a_sheet(desk: Desk) -> None:

@@ -173,3 +173,56 @@ def test_animal_with_a_title_as_its_id(desk: Desk) -> None:
     rows = TITLES + "Father;M;2001-01-01;;\na1;F;2003-01-01;Father;\na2;F;2003-01-01;Hengst;\n"
     for sheet in rows, rows.replace("Father;M;2001-01-01;;\n", ""):
         assert "a column of parents" not in desk.take(sheet, "--anyway").told
+
+
+NOBODY = ("né de père inconnu", "NE DE PERE INCONNU", "née de parents inconnus", "néant", "von unbekanntem Vater", "Pere inconnu")
+
+
+def test_words_that_say_unknown(desk: Desk) -> None:
+    rows = "".join(f"a{at};F;2001-01-01;{word};\n" for at, word in enumerate(NOBODY))
+    assert " 0 left out, 0 added" in desk.take(TITLES + rows).last
+
+
+JACKS = "id;name;sex;birth;sire;dam;owner\nJ01;Max;M;2010-03-12;;;LENOËL Thierry\nJ02;Ortie;F;2010-04-14;;;Mayr Josef\n"
+
+
+def told_of(desk: Desk, *sires: str) -> str:
+    """What is told of sires beside some that are written by their names."""
+    rows = [f"J1{at};;F;2016-03-15;{sire};J02;Duval" for at, sire in enumerate([*sires, "Max", "Max", "Max"])]
+    return desk.take(JACKS + "\n".join(rows)).told
+
+
+ANIMALS_OF_OWNERS = ("baudet de LENOËL Thierry", "étalon de Lenoël", "Leihbock v. Mayr", "Rammler vom Mayr", "bull of Mayr")
+
+
+@pytest.mark.parametrize("text", ANIMALS_OF_OWNERS)
+def test_animal_of_an_owner(desk: Desk, text: str) -> None:
+    """It is told as no id, with what says that it is unknown."""
+    assert f"{text} has no row and is written like no id, and is the sire of 1" in told_of(desk, text)
+
+
+@pytest.mark.parametrize("text", ["Baudet du Bocage", "Bijou de Lenoël", "Étalon d'Or", "Carneville"])
+def test_names_like_animals_of_owners(desk: Desk, text: str) -> None:
+    assert "like no id" not in told_of(desk, text)
+
+
+def test_name_in_doubt(desk: Desk) -> None:
+    """It is told which animal may be meant, or that it is no id."""
+    told = told_of(desk, "Max ?", "Quarto du Val?")
+    assert "Max ? has no row, and is the sire of 1: is J01 meant? If so, write that id" in told
+    assert "Quarto du Val? has no row and is written like no id, and is the sire of 1" in told
+
+
+@pytest.mark.parametrize("text", ["W23/22-009/W23/22-002", "W23/22-009/W23/20-001", "W23/22-009 + W23/22-002"])
+def test_two_ids(desk: Desk, text: str) -> None:
+    """One of two, also where none has a row, or ids have such a sign themselves."""
+    rows = "".join(f"W23/20-00{at};M;2020-01-01;;\n" for at in range(1, 4))
+    done = desk.take(TITLES + rows + f"W23/23-001;F;2023-01-01;{text};\n")
+    done.tells(f"line 5: W23/23-001: its sire '{text}' is left out: it may be one or the other, and counts as unknown")
+    assert " 0 added" in done.last
+
+
+@pytest.mark.parametrize("text", ["W23/22-009", "12/3", "W23/22-009/7", "Max/Moritz"])
+def test_no_two_ids(desk: Desk, text: str) -> None:
+    rows = "".join(f"W23/20-00{at};M;2020-01-01;;\n" for at in range(1, 4))
+    assert " 1 added" in desk.take(TITLES + rows + f"W23/23-001;F;2023-01-01;{text};\n").last

@@ -21,7 +21,8 @@ from gudokeyi.ingest.findings.cells import DayLeftOut
 from gudokeyi.ingest.findings.days import DayReading
 from gudokeyi.ingest.findings.sheets import NoOrderShown, OneWrongOrder, Place, WrongOrder
 from gudokeyi.ingest.seasons import last_month
-from gudokeyi.ingest.words import DEAD, exit_word, is_still_there, lives, word_fault
+from gudokeyi.ingest.texts import plain
+from gudokeyi.ingest.words import DEAD, KNOWN_SINCE_BIRTH, exit_word, is_still_there, lives, word_fault
 from gudokeyi.ingest.words_beside import words_beside
 
 # Whether days with slashes or hyphens have the day first or the month, as a sheet's own days show.
@@ -169,7 +170,7 @@ class DayCells:
             return self.possible(field, text, made(Span, (day, day, "", "", Precision.DAY)))
         is_exit, said = field is Field.EXIT, behind_since(text) if field is Field.SINCE else text
         has_left = is_exit and exit_word(text)
-        if said in self.unknown and not has_left:
+        if (said in self.unknown and not has_left) or (field is Field.SINCE and plain(said) in KNOWN_SINCE_BIRTH):
             return SAYS_NOTHING
         if field is Field.BIRTH and tells_other_event(text):
             return DayCell(fault=DayLeftOut(field, DayFault.OTHER_EVENT, text), is_unread=True)

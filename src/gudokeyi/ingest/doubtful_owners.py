@@ -1,4 +1,4 @@
-"""Texts that stand for an owner and don't look like a name, as `vendu`, `3.4.2020`, `06 12 34 56 78` and `idem mère`."""
+"""Texts that stand for an owner and don't look like a name, as `vendu`, `06 12 34 56 78` and `idem mère`."""
 from __future__ import annotations
 
 import re

@@ -6,7 +6,7 @@ import re
 from collections.abc import Collection
 
 from gudokeyi.domain.cells import FIRST_LETTER
-from gudokeyi.ingest.texts import listed, plain
+from gudokeyi.ingest.texts import listed, plain, without_accents
 from gudokeyi.ingest.words import KNOWN_NO_OWNERS, SALE_NOT_MADE, UNKNOWN, is_error_value
 
 # signs alone, as `?`, `*` and `---`, zeros alone, as `00` and `0.0`, and the usual numbers as pandas writes them, as
@@ -28,7 +28,7 @@ def compared(text: str) -> str:
     return POINTS.sub("", folded) if "." in folded else folded
 
 
-KNOWN_UNKNOWN = {compared(word) for word in listed(UNKNOWN)}
+KNOWN_UNKNOWN = {compared(form) for word in listed(UNKNOWN) for form in (word, without_accents(word))}
 # how texts begin, in small letters, that may stand for an unknown parent: these words, signs and error values
 BEGINNINGS = BEGIN_OF_SIGNS | {word[0] for word in KNOWN_UNKNOWN} | {"#", "e"}
 FIRST_LETTERS = {"", *BEGINNINGS, *(letter.upper() for letter in BEGINNINGS)}

@@ -18,7 +18,9 @@ UNKNOWN = (
     "onc, origine non constatée, origine inconnue, sire unknown, dam unknown, father unknown, mother unknown, unknown "
     "father, unknown mother, Vater unbek, Mutter unbek, unbekannter Vater, unbekannte Mutter, Vater nicht bekannt, "
     "Mutter nicht bekannt, père non déclaré, mère non déclarée, non déclaré, non déclarée, non enregistré, non "
-    "enregistrée, non inscrit, non inscrite, nicht eingetragen, nicht eingetr, nicht registriert, nicht erfasst, "
+    "enregistrée, non inscrit, non inscrite, néant, né de père inconnu, née de père inconnu, né de mère inconnue, née de "
+    "mère inconnue, de père inconnu, de mère inconnue, né de parents inconnus, née de parents inconnus, parents inconnus, "
+    "origines inconnues, ascendance inconnue, von unbekanntem Vater, von unbekannter Mutter, by unknown sire, nicht eingetragen, nicht eingetr, nicht registriert, nicht erfasst, "
     "Fremdbock, Fremdwidder, Fremdhengst, Fremdbulle, Fremdrüde, Fremdkater, stray, stray tom, mixed mating, mixed "
     "matings, group mating, pending DNA, DNA pending, -1, -9, -99, -999, -9999"
 )
@@ -155,6 +157,14 @@ NO_NAMES = (
     "eigene, eigener, eigenes, Besitzer, Eigentümer, Halter, Züchter, Tierhalter, niemand, moi, moi-même, lui-même, "
     "elle-même, soi-même, propriétaire, détenteur, éleveur, éleveuse, naisseur, personne"
 )
+# what says since when an owner has an animal: since it was born
+SINCE_BIRTH = (
+    "birth, its birth, at birth, by birth, born here, born on farm, homebred, home bred, own bred, own breeding, bred, "
+    "bred here, Geburt, der Geburt, Geburt an, von Geburt an, von Geburt, bei Geburt, hier geboren, Eigenzucht, eigene "
+    "Zucht, aus eigener Zucht, eigene Nachzucht, Nachzucht, selbst gezüchtet, Wurf, eigener Wurf, Eigenwurf, naissance, "
+    "la naissance, sa naissance, à la naissance, né ici, née ici, né chez nous, née chez nous, né à la maison, née à la "
+    "maison, né à la ferme, née à la ferme, né à l'élevage, née à l'élevage, propre élevage, notre élevage"
+)
 # names of animals that never lived
 BORN_DEAD = "totgeburt, totgeboren, stillborn, still born, stillbirth, mort-né, mort-née, mortné, mortinato"
 # with one of these a word for a living animal tells of one that has left
@@ -216,6 +226,7 @@ KNOWN_RETURNS = {plain(word) for word in listed(RETURNS)}
 KNOWN_NO_PARENTS = {plain(word) for word in listed(NO_PARENTS)}
 KNOWN_NO_OWNERS = {plain(word) for word in listed(NO_OWNERS)}
 KNOWN_NO_NAMES = {plain(word) for word in listed(NO_NAMES)}
+KNOWN_SINCE_BIRTH = {plain(word) for word in listed(SINCE_BIRTH)}
 KNOWN_NOTHING = {plain(word) for word in listed(NOTHING)}
 KNOWN_NEGATIONS = {plain(word) for word in listed(NEGATIONS)}
 KNOWN_BORN_DEAD = {plain(word) for word in listed(BORN_DEAD)}

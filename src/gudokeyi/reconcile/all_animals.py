@@ -12,6 +12,7 @@ from gudokeyi.ingest.animals import DAM_OF, SIRE_OF, SheetAnimal, ancestors_amon
 from gudokeyi.ingest.columns import Columns
 from gudokeyi.reconcile.birth_days import find_days
 from gudokeyi.reconcile.exchanged_ids import tell_exchanged_ids
+from gudokeyi.reconcile.exchanged_parents import leave_out_exchanged_parents
 from gudokeyi.reconcile.exits import exit_in_book, tell_exits_unread, tell_lost_exits
 from gudokeyi.reconcile.findings.animals import RowIsGone
 from gudokeyi.reconcile.guards import Guards, without_row
@@ -125,6 +126,7 @@ def find_parents(
         keep_parents_named(next_book, lacking, all_animals)
     if not next_book.is_pedigree:
         mend_sexes(next_book, gone, lacking, names)
+        leave_out_exchanged_parents(next_book, names)
         near = NearIds(lacking, all_animals, with_id, next_book.last_found)
         if lacking:
             ParentsInTexts(lacking, names).find(report)

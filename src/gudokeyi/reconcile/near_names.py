@@ -7,7 +7,8 @@ import re
 from collections.abc import Collection, Iterator
 
 from gudokeyi.domain.spelling import folded
-from gudokeyi.ingest.words import KNOWN_NO_PARENTS, has_word
+from gudokeyi.ingest.texts import plain
+from gudokeyi.ingest.words import KNOWN_NO_PARENTS, KNOWN_SEXES, has_word
 
 # so many words of a text are looked at, and so many letters a part has that may be a name
 MOST_WORDS, LEAST_LETTERS = 8, 3
@@ -18,6 +19,12 @@ DAY = re.compile(r"(?:19|20)\d\d-\d\d?-\d\d?|\d\d?([./-])\d\d?\1(?:(?:19|20)\d\d
 # one in so many ids may have no digit where ids have some
 TENTH, LEAST_IDS = 10, 3
 DIGITS = re.compile(r"\d+")
+# a word for an animal, and behind it whose it is; short words for sexes are parts of many others
+OF_SOMEBODY = re.compile(
+    r"(?P<animal>[^\W\d_]+)\s+(?:(?:d[eu]|des|chez|à|vo[nm]|bei|of|from)\s|d['’]|v\.)\s*(?P<owner>\S.*)", re.IGNORECASE
+)
+LONG_SEXES = tuple(word for word in KNOWN_SEXES if len(word) >= 4)
+WORD = re.compile(r"[^\W_]+")
 
 
 def parts_of(text: str) -> Iterator[str]:
@@ -38,3 +45,16 @@ def have_digits(ids: Collection[str]) -> bool:
 def is_like_word(text: str) -> bool:
     """Is it written like no id, or has it a word that names no parent, as `Import Peru`, and no digit?"""
     return LIKE_WORD.fullmatch(text) is not None or not DIGITS.search(text) and has_word(text, KNOWN_NO_PARENTS)
+
+
+def words_of(name: str) -> frozenset[str]:
+    return frozenset(map(plain, WORD.findall(name)))
+
+
+def is_animal_of(text: str, owners: Collection[frozenset[str]]) -> bool:
+    """Does it say whose animal it is, as `ânesse de Duval` and `Leihrammler v. Mayr`? `owners` are the words of names."""
+    found = OF_SOMEBODY.fullmatch(text)
+    if found is None or not plain(found["animal"]).endswith(LONG_SEXES):
+        return False
+    words = words_of(found["owner"])
+    return any(words <= owner for owner in owners)

@@ -1,5 +1,5 @@
-"""Owners whose names have the same words in another order, an initial in place of a first name, or a `?` where a letter
-is lost."""
+"""Owners whose names have the same words in another order, an initial in place of a first name, no `sen.` or `jun.`, or
+a `?` where a letter is lost."""
 from __future__ import annotations
 
 import collections
@@ -8,12 +8,15 @@ from collections.abc import Iterable, Iterator
 
 from gudokeyi.ingest.texts import plain
 from gudokeyi.reconcile.findings.animals import OwnersAlike, OwnersOtherwise, Spelling
-from gudokeyi.reconcile.findings.plausibility import MOST_OTHERS, OwnerWithInitial
+from gudokeyi.reconcile.findings.plausibility import MOST_OTHERS, OwnerOfGeneration, OwnerWithInitial
 from gudokeyi.reconcile.next_book import NextBook
 from gudokeyi.reconcile.owners import A_NAME, FAMILY, OF_MEN, OF_WOMEN, TITLE, last_name, name_alone, owners_of_rows
 
 # what stands between the words of a name, and a sign in place of a letter
 BETWEEN, LOST = re.compile(r"[\s,;.]+"), re.compile(r"(?<=[^\W\d_])\?(?=[^\W\d_]|$|\s)")
+
+# what tells a father and a child of one name apart
+GENERATIONS = {"sen", "sr", "snr", "senior", "jun", "jr", "jnr", "junior"}
 
 
 def tell_owners_of_like_words(
@@ -33,6 +36,9 @@ def tell_owners_of_like_words(
     for owner, others in with_initials(owners).items():
         if not new.isdisjoint((owner, *others)):
             next_book.report.add(0, "", OwnerWithInitial(owner, tuple(others[:MOST_OTHERS])))
+    for owner, others in of_generations(owners).items():
+        if not new.isdisjoint((owner, *others)):
+            next_book.report.add(0, "", OwnerOfGeneration(owner, tuple(others[:MOST_OTHERS])))
 
 
 def words_of_name(owner: str) -> list[str]:
@@ -64,6 +70,18 @@ def with_lost_letters(owners: list[str]) -> Iterator[list[str]]:
         others = [one for one in owners if len(one) == len(owner) and form.fullmatch(one)]
         if others:
             yield sorted([owner, *others])
+
+
+def of_generations(owners: Iterable[str]) -> dict[str, list[str]]:
+    """By names of several words those that have `sen.`, `jun.` or the like more."""
+    alone, with_more = (collections.defaultdict[tuple[str, ...], list[str]](list) for _ in range(2))
+    for owner in owners:
+        words = [*map(last_name, words_of_name(owner))]
+        name = [word for word in words if word not in GENERATIONS]
+        (alone if name == words else with_more)[tuple(sorted(name))].append(owner)
+    both = [(owner, key) for key in with_more if len(key) > 1 for owner in alone[key]]
+    found = {owner: [one for one in with_more[key] if may_be_one(owner, one)] for owner, key in both}
+    return {owner: others for owner, others in found.items() if others}
 
 
 def with_initials(owners: Iterable[str]) -> dict[str, list[str]]:

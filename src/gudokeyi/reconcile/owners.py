@@ -141,14 +141,20 @@ FAMILY = re.compile(r"\b(?:familie|family|famille|fam)\b\.?", re.IGNORECASE)
 # titles of men, of women and of both; `M.` before one name may be an initial
 OF_MEN = re.compile(r"\b(?:mr|herr|hr|monsieur)\b\.?|^m\.(?=\s*\S+\s+\S)|\bm\.$", re.IGNORECASE)
 OF_WOMEN = re.compile(r"\b(?:mrs|ms|miss|mme|mlle|madame|mademoiselle|frau)\b\.?|\bfr\.", re.IGNORECASE)
-TITLE = re.compile(rf"{OF_MEN.pattern}|{OF_WOMEN.pattern}|\b(?:dr|prof)\b\.?", re.IGNORECASE)
+TITLE = re.compile(
+    rf"{OF_MEN.pattern}|{OF_WOMEN.pattern}|\b(?:dr|prof|(?:dipl\.?[ -]?)?ing)\b\.?|\b(?:dipl|mag|med|vet|univ|lic|dkfm)\.",
+    re.IGNORECASE,
+)
+# words of farms that have a short form too
+SHORTENED = {"bros": r"brothers|bros\b\.?", "gebr": r"gebrüder|gebr\b\.?", "ltd": r"limited|ltd\b\.?"}
+SHORT_FORMS = [(re.compile(rf"\b(?:{form})", re.IGNORECASE), short) for short, form in SHORTENED.items()]
 # what stands between the words of a name
 JOINING = re.compile(r"\b(?:and|und|et|du|de|des|the|vom)\b|\bd['’]", re.IGNORECASE)
 
 
 def tell_otherwise(next_book: NextBook, animals: Mapping[str, int]) -> None:
-    """Names whose last name stands first, before a comma, or that have a title, an article, or a word for a family or
-    for `and` otherwise."""
+    """Names whose last name stands first, before a comma, or that have a title, an article, or a word for a family, for
+    brothers or for `and` otherwise."""
     found = collections.defaultdict[str, list[Spelling]](list)
     for owner, count in sorted(animals.items()):
         found[name_alone(owner)].append(Spelling(owner, count))
@@ -162,7 +168,9 @@ def name_alone(owner: str) -> str:
     """The name as it is compared, the last name last."""
     untitled = TITLE.sub(" ", owner).strip()
     last, comma, first = untitled.partition(",")
-    name = FAMILY.sub("fam", f"{first} {last}" if comma else untitled)
+    name = FAMILY.sub(" ", f"{first} {last}" if comma else untitled)
+    for form, short in SHORT_FORMS:
+        name = form.sub(short, name)
     joined = JOINING.sub(" ", name)
     # `De Vries` isn't `Vries`
     return plain((joined if len(joined.split()) > 1 else name).casefold().translate(UMLAUTS))
@@ -279,7 +287,7 @@ def tell_owners_for_sale(next_book: NextBook) -> None:
 
 
 def telephones_among(owners: Collection[str]) -> set[str]:
-    """Those that are written like telephone numbers, unless owners are numbers, as that of a farm, in half of a list."""
+    """Those that are written like telephone numbers, unless half of the owners are, as farms by their numbers."""
     found = {*filter(is_telephone, owners)}
     return found if 2 * len(found) < len(owners) else set()
 

@@ -12,7 +12,7 @@ from gudokeyi.domain.kinds import Field, Role, Standing
 from gudokeyi.domain.pedigree_order import ancestors
 from gudokeyi.domain.requests import MOST_IN_ID
 from gudokeyi.ingest.animals import (
-    CELLS_OF, DAM_OF, LINE_OF, NAME_OF, SIRE_OF, Link, SheetAnimal, links_outside,
+    CELLS_OF, DAM_OF, LINE_OF, NAME_OF, OWNER_OF, SIRE_OF, Link, SheetAnimal, links_outside,
 )  # fmt: skip
 from gudokeyi.ingest.days_for_ids import DaysForIds, is_day
 from gudokeyi.ingest.findings.cells import TextTooLong
@@ -27,7 +27,7 @@ from gudokeyi.reconcile.findings.unknown_parents import (
 )  # fmt: skip
 from gudokeyi.reconcile.ids_by_name import IdsByName
 from gudokeyi.reconcile.last_found import Kept, LastFound
-from gudokeyi.reconcile.near_names import DAY, DIGITS, have_digits, is_like_word
+from gudokeyi.reconcile.near_names import DAY, DIGITS, have_digits, is_animal_of, is_like_word, words_of
 from gudokeyi.reconcile.near_tags import NearTags, ids_by_digits
 from gudokeyi.reconcile.next_book import NextBook
 from gudokeyi.store.book import Book
@@ -209,11 +209,13 @@ class Names:
         return {one for one in texts if not DIGITS.search(one) and plain(one) in NAMING_PARENTS and one not in unknown}
 
     def is_like_no_id(self, parent: str) -> bool:
-        """Where ids have digits: is it a short word, or one behind an abbreviation, a day, or a text without a digit
-        where parents have some, and means no animal by its name?"""
+        """Where ids have digits: is it in doubt, as `Max ?`, or a short word, or one behind an abbreviation, a day, an
+        animal of an owner, or a text without a digit where parents have some, and means no animal by its name?"""
         if parent not in self.lacking or not self.have_digits:
             return False
-        is_odd = is_like_word(parent) or ((DAY.fullmatch(parent) or is_day(parent)) and not self.have_days)
+        if parent.endswith("?"):
+            return True
+        is_odd = is_like_word(parent) or is_animal_of(parent, self.owners) or ((DAY.fullmatch(parent) or is_day(parent)) and not self.have_days)
         is_odd = is_odd or not any(map(str.isdigit, parent)) and self.parents_have_digits
         if not is_odd:
             return False
@@ -235,6 +237,11 @@ class Names:
     @functools.cached_property
     def have_digits(self) -> bool:
         return self.last.of(Kept.HAVE_DIGITS, (self.ids_of_rows,), lambda: have_digits(self.ids_of_rows))
+
+    @functools.cached_property
+    def owners(self) -> Collection[frozenset[str]]:
+        """The words of their names."""
+        return {*map(words_of, {*map(OWNER_OF, self.animals.values())} - {""})}
 
     @functools.cached_property
     def have_days(self) -> bool:

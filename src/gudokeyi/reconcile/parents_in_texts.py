@@ -78,6 +78,8 @@ AT_ENDS = "?:;\"'"
 HAS_MORE = re.compile(rf"[ /;,()\[\]|{AT_ENDS}{CROSSES}]|^\+")
 # brackets round a parent are how a list writes it, and tell no doubt, where at least one in so many has them
 BRACKETS_USUAL = 3
+# what stands between two ids that no animal may have, which are longer than numbers of years
+BETWEEN_IDS, LEAST_IN_ID = re.compile(r"[/;,|+&]"), 4
 # what stands between two names; others are within one, as in `Salz und Pfeffer`
 OF_NAMES = re.compile(r"\s*/\s*")
 YEAR = re.compile(r"(?:19|20)\d\d")
@@ -169,6 +171,8 @@ class ParentsInTexts:
             return EitherParent(role, text)
         if found and (ONE_OF.match(text) or self.has_another_id(text, found[0])) or self.are_names(text):
             return EitherParent(role, text)
+        if self.are_ids(text):
+            return EitherParent(role, text)
         if doubted := self.doubted(text, found):
             return ParentNotSure(role, text, doubted)
         return None
@@ -254,6 +258,13 @@ class ParentsInTexts:
     def shapes(self) -> Collection[str]:
         """How the ids are written."""
         return {*map(shape, self.with_id)}
+
+    def are_ids(self, text: str) -> bool:
+        """Are there two texts that are written as ids are at both sides of a sign, which may be one of those in ids?"""
+        if self.is_like_id(text):
+            return False
+        parts = ((text[: sign.start()].strip(), text[sign.end() :].strip()) for sign in BETWEEN_IDS.finditer(text))
+        return any(min(map(len, both)) >= LEAST_IN_ID and all(map(self.is_like_id, both)) for both in parts)
 
     def are_names(self, text: str) -> bool:
         """Does it have two names, of which one at least is an animal's?"""

@@ -360,14 +360,14 @@ class OwnerMistyped(PlausibilityWarning):
 @dataclass(frozen=True, slots=True)
 class OwnersOtherwise(PlausibilityWarning):
     """Owners of the sheet whose names have their words in another order, or a title, an article, or a word such as
-    `Familie` or `and` otherwise."""
+    `Familie`, `Brothers` or `and` otherwise."""
 
     spellings: tuple[Spelling, ...]
 
     code = "owners otherwise"
     message = Text(
-        "the owners {names} differ in the order of first and last name, in a title or an article, or in how Familie or "
-        "and is written: if they are one, write the name alike in all rows, and take the sheet again"
+        "the owners {names} differ in the order of first and last name, in a title or an article, or in how Familie, "
+        "Brothers or and is written: if they are one, write the name alike in all rows, and take the sheet again"
     )
 
     def values(self) -> Mapping[str, object]:

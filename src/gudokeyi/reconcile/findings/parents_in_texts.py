@@ -37,6 +37,20 @@ class BothParents(ParentLeftOut):
 
 
 @dataclass(frozen=True, slots=True)
+class ParentsExchanged(ParentLeftOut):
+    """A row that names a female of the list as its sire, and a male as its dam."""
+
+    female: str
+    male: str
+
+    code = "parents exchanged"
+    message = Text(
+        "its sire and dam may be swapped: {female}, which stands as its sire, is female, and {male}, which stands as its "
+        "dam, is male: both are left out, and count as unknown; write each in its own column"
+    )
+
+
+@dataclass(frozen=True, slots=True)
 class NamedByRelation(ParentLeftOut):
     """A cell that names another animal, and says how the parent is related to it."""
 

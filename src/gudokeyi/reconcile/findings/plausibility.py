@@ -128,6 +128,23 @@ class OwnerWithInitial(PlausibilityWarning):
 
 
 @dataclass(frozen=True, slots=True)
+class OwnerOfGeneration(PlausibilityWarning):
+    """An owner has neither `sen.` nor `jun.` where others of the name have one."""
+
+    owner: str
+    others: tuple[str, ...]
+
+    code = "owner of generation"
+    message = Text(
+        "the owner '{owner}' may be {which}, as its name stands without sen. or jun.: if they are one, write the name "
+        "alike in all rows, and take the sheet again"
+    )
+
+    def values(self) -> Mapping[str, object]:
+        return {"which": AnyOf(self.others)}
+
+
+@dataclass(frozen=True, slots=True)
 class BornDead(PlausibilityWarning):
     """An animal whose name says that it never lived."""
 
