@@ -73,13 +73,13 @@ NUMBER_OF_YEAR = re.compile(rf"(?<![\w.-])(?<!\d/){OF_YEAR}(?![\w.-]|/\d)")
 BEGINS_WITH_NAME, ENDS_WITH_NAME, KEPT = re.compile(r"/[^\W\d_]"), re.compile(r"[^\W\d_]/$"), "\0"
 # a sign by which animals leave, before an id or behind it
 SIGN_OF_EXIT = re.compile(rf"^[+{CROSSES}]\s*|\s*[{CROSSES}]$")
-# what stands between two ids that no animal may have, which are longer than numbers of years
-BETWEEN_IDS, LEAST_IN_ID = re.compile(r"[/;,|+&]"), 4
 # signs at the ends of an id that are none of it
 AT_ENDS = "?:;\"'"
 HAS_MORE = re.compile(rf"[ /;,()\[\]|{AT_ENDS}{CROSSES}]|^\+")
 # brackets round a parent are how a list writes it, and tell no doubt, where at least one in so many has them
 BRACKETS_USUAL = 3
+# what stands between two ids that no animal may have, which are longer than numbers of years
+BETWEEN_IDS, LEAST_IN_ID = re.compile(r"[/;,|+&]"), 4
 # what stands between two names; others are within one, as in `Salz und Pfeffer`
 OF_NAMES = re.compile(r"\s*/\s*")
 YEAR = re.compile(r"(?:19|20)\d\d")
@@ -300,8 +300,8 @@ class ParentsInTexts:
         return next(filter(None, map(self.ids.get, map(nearly, (part, *bare)))), "")
 
     def named_between(self, text: str, words: Sequence[str]) -> list[str]:
-        """The animals whose ids stand between other words, as in `Max DE001 born 2015`: those that are also named there,
-        or whose ids have letters and no few digits."""
+        """The animals whose ids stand between other words, as in `Max DE001 born 2015`: those that are also named
+        there, or whose ids have letters and no few digits."""
         inner = [words[first:last] for first in range(1, len(words) - 1) for last in range(first + 1, len(words))]
         likely = [part for one in inner if DIGITS.search(part := " ".join(one))]
         found = [id for part in likely if (id := self.id_of(part.strip("()[],")))]
