@@ -222,7 +222,7 @@ def test_two_ids(desk: Desk, text: str) -> None:
     assert " 0 added" in done.last
 
 
-@pytest.mark.parametrize("text", ["W23/22-009", "12/3", "W23/22-009/7", "Max/Moritz"])
+@pytest.mark.parametrize("text", ["W23/22-009", "12/3", "1234/5678", "W23/22-009/7", "Max/Moritz"])
 def test_no_two_ids(desk: Desk, text: str) -> None:
     rows = "".join(f"W23/20-00{at};M;2020-01-01;;\n" for at in range(1, 4))
     assert " 1 added" in desk.take(TITLES + rows + f"W23/23-001;F;2023-01-01;{text};\n").last

@@ -69,8 +69,8 @@ NUMBER_OF_YEAR = re.compile(rf"(?<![\w.-])(?<!\d/){OF_YEAR}(?![\w.-]|/\d)")
 BEGINS_WITH_NAME, ENDS_WITH_NAME, KEPT = re.compile(r"/[^\W\d_]"), re.compile(r"[^\W\d_]/$"), "\0"
 # a sign by which animals leave, before an id or behind it
 SIGN_OF_EXIT = re.compile(rf"^[+{CROSSES}]\s*|\s*[{CROSSES}]$")
-# what stands between two ids that no animal may have, which are longer than numbers of years
-BETWEEN_IDS, LEAST_IN_ID = re.compile(r"[/;,|+&]"), 4
+# what stands between two ids that may have no rows; a short number beside it may be a part of another society's id
+BETWEEN_IDS, LEAST_IN_ID = re.compile(r"[/;,|+&]"), 6
 # what stands between two names; others are within one, as in `Salz und Pfeffer`
 OF_NAMES = re.compile(r"\s*/\s*")
 YEAR = re.compile(r"(?:19|20)\d\d")
