@@ -23,8 +23,9 @@ def test_named_parents(desk: Desk) -> None:
         L1;Moritz;M;2004-01-01;moritz;änne
         L2;;F;2004-02-01;Max;Lotte
         L3;;F;2000-01-01;Leo;Moritz
-        L4;;F;2004-02-01;Rosi;R1
+        L4;;F;2004-02-01;Rosi;
         L6;;F;2004-02-01;Leo;Rosi
+        L7;;F;2004-02-01;;R1
         """
     done = desk.take(sheet)
     done.tells(
@@ -42,7 +43,7 @@ def test_named_parents(desk: Desk) -> None:
             " L1: write the id of the one that is meant)"
         ),
         "line 12: Rosi: added: the sire of L4 has no row: added without parents (is E4 meant?)",
-        "line 12: L4: its dam R1 (line 2) is left out: it isn't female (refusal 6)",
+        "line 14: L7: its dam R1 (line 2) is left out: it isn't female (refusal 6)",
     )
     assert " 8 inferred, 1 left out (1 parent), 4 added, 0 gone" in done.last
     parents = desk.parents()

@@ -65,22 +65,23 @@ def test_no_owner_by_hand(desk: Desk, word: str) -> None:
     desk.wrong("the new owner is missing", "transfer", "A101", "--to", word, "--day", "2020-01-01")
 
 
-FOR_SALE = ("zu verk.", "zu verkaufen", "à vendre", "for sale")
+FOR_SALE = ("zu verk.", "zu verkaufen", "à vendre", "A VENDRE", "for sale")
 
 
 def test_for_sale_in_place_of_an_owner(desk: Desk) -> None:
     """The animal keeps its owner, and the words are told once."""
-    take(desk, ("Mrs X",) * 5)
+    take(desk, ("Mrs X",) * 6)
     told = take(desk, ("Mrs X", *FOR_SALE))
     assert desk.owners() == [(1, "Mrs X")] and desk.transfer_days() == []
     assert {one for one in FOR_SALE if f"'{one}' stands where 1 animal has its owner, and says" in told} == {*FOR_SALE}
 
 
-@pytest.mark.parametrize("text", FOR_SALE)
-def test_for_sale_is_no_exit(desk: Desk, text: str) -> None:
-    """It gives the animal to nobody, though an owner is written so too."""
-    sheet = f"id;sex;birth;sire;dam;owner;exit\n1;F;2019-06-01;;;Mrs X;{text}\n2;F;2019-06-01;;;verk. → Eder;\n"
-    done = desk.take(sheet)
+@pytest.mark.parametrize("cells", [f"{text};" for text in FOR_SALE] + [f";{text}" for text in FOR_SALE])
+def test_for_sale_is_no_exit(desk: Desk, cells: str) -> None:
+    """In the columns of exits and of a status it gives the animal to nobody, though an owner is written so too."""
+    text = cells.strip(";")
+    titles = "id;sex;birth;sire;dam;owner;exit;status\n"
+    done = desk.take(f"{titles}1;F;2019-06-01;;;Mrs X;{cells}\n2;F;2019-06-01;;;verk. → Eder;;\n")
     assert (1, "Mrs X") in desk.owners() and f"in line 2: '{text}': the animal stays" in done.told
     assert " 0 gone" in done.last and desk.transfer_days() == []
     assert desk.good("list", "--columns", "id,owner").out.splitlines()[1] == "1,Mrs X"

@@ -21,9 +21,10 @@ UNKNOWN = (
     "onc, origine non constatée, origine inconnue, sire unknown, dam unknown, father unknown, mother unknown, unknown "
     "father, unknown mother, Vater unbek, Mutter unbek, unbekannter Vater, unbekannte Mutter, Vater nicht bekannt, "
     "Mutter nicht bekannt, père non déclaré, mère non déclarée, non déclaré, non déclarée, non enregistré, non "
-    "enregistrée, non inscrit, non inscrite, néant, né de père inconnu, née de père inconnu, né de mère inconnue, née de "
-    "mère inconnue, de père inconnu, de mère inconnue, né de parents inconnus, née de parents inconnus, parents inconnus, "
-    "origines inconnues, ascendance inconnue, von unbekanntem Vater, von unbekannter Mutter, by unknown sire, nicht eingetragen, nicht eingetr, nicht registriert, nicht erfasst, "
+    "enregistrée, non inscrit, non inscrite, nicht eingetragen, nicht eingetr, nicht registriert, nicht erfasst, "
+    "néant, né de père inconnu, née de père inconnu, né de mère inconnue, née de mère inconnue, de père inconnu, de mère "
+    "inconnue, né de parents inconnus, née de parents inconnus, parents inconnus, origines inconnues, "
+    "von unbekanntem Vater, von unbekannter Mutter, "
     "Fremdbock, Fremdwidder, Fremdhengst, Fremdbulle, Fremdrüde, Fremdkater, stray, stray tom, mixed mating, mixed "
     "matings, group mating, pending DNA, DNA pending, -1, -9, -99, -999, -9999"
 )
@@ -330,7 +331,7 @@ PLAIN_EXITS = TELLING_EXITS & {
 }  # fmt: skip
 # a word that tells of an exit tells of none here
 SALE_NOT_MADE = re.compile(
-    r"\b(?:for\s+sale|zu\s+verk(?:aufen)?|à\s+vendre|(?:mise?\s+)?en\s+vente)\b\.?", re.IGNORECASE
+    r"\b(?:for\s+sale|zu\s+verk(?:aufen)?|[àa]\s+vendre|(?:mise?\s+)?en\s+vente)\b\.?", re.IGNORECASE
 )
 # an animal that isn't bred from is still there, though a word tells of its breeding with one that negates it, or of an
 # exit

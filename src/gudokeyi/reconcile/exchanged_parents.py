@@ -22,8 +22,8 @@ class Exchanged(NamedTuple):
 
 
 def leave_out_exchanged_parents(next_book: NextBook, names: Names) -> None:
-    """Both parents are unknown then. Where most rows are such, the columns are exchanged, which is told by itself; and an
-    animal that stands so several times, and no more often as what it is, may have a wrong sex."""
+    """Both parents are unknown then. Where most rows are such, the columns are exchanged, which is told by itself; and
+    an animal that stands so several times, and no more often as what it is, may have a wrong sex."""
     rows = [row for row in next_book.animals.values() if row.line and row.sire and row.dam]
     found = [*exchanged(rows, names)]
     if not found or (len(found) > FEW_REFUSED and 2 * len(found) > len(rows)):

@@ -52,7 +52,8 @@ def words_of(name: str) -> frozenset[str]:
 
 
 def is_animal_of(text: str, owners: Collection[frozenset[str]]) -> bool:
-    """Does it say whose animal it is, as `ânesse de Duval` and `Leihrammler v. Mayr`? `owners` are the words of names."""
+    """Does it say whose animal it is, as `ânesse de Duval` and `Leihrammler v. Mayr`? `owners` are the words of their
+    names."""
     found = OF_SOMEBODY.fullmatch(text)
     if found is None or not plain(found["animal"]).endswith(LONG_SEXES):
         return False

@@ -37,7 +37,7 @@ from gudokeyi.store.book import Book
 # of so many links a parent without a row that is a sire and a dam is told
 MANY = 3
 # in a sheet a text without a digit is told where so many animals have it as a parent, and so many texts are
-SEVERAL, MOST_WORDS = 2, 9
+SEVERAL, MOST_WORDS = 2, 20
 # so few parents without a row may be short ids in which two letters are swapped
 FEW = 5
 # and so few may be names with more or less than these

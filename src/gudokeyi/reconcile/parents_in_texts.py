@@ -78,8 +78,8 @@ AT_ENDS = "?:;\"'"
 HAS_MORE = re.compile(rf"[ /;,()\[\]|{AT_ENDS}{CROSSES}]|^\+")
 # brackets round a parent are how a list writes it, and tell no doubt, where at least one in so many has them
 BRACKETS_USUAL = 3
-# what stands between two ids that no animal may have, which are longer than numbers of years
-BETWEEN_IDS, LEAST_IN_ID = re.compile(r"[/;,|+&]"), 4
+# what stands between two ids that may have no rows; a short number beside it may be a part of another society's id
+BETWEEN_IDS, LEAST_IN_ID = re.compile(r"[/;,|+&]"), 6
 # what stands between two names; others are within one, as in `Salz und Pfeffer`
 OF_NAMES = re.compile(r"\s*/\s*")
 YEAR = re.compile(r"(?:19|20)\d\d")
