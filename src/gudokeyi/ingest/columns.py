@@ -44,7 +44,6 @@ from gudokeyi.ingest.words import (
 )  # fmt: skip
 
 
-
 @dataclass
 class Columns:
     """For each field its column; what keeps the sheet from being taken, and what is told."""
