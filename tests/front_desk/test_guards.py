@@ -201,7 +201,8 @@ def test_few_of_many(desk: Desk) -> None:
 
 
 def test_ids_written_otherwise(taken: Desk) -> None:
-    rows = [row.replace("A", "a ") for row in flock("A")]
+    """Those whose birth days are others too aren't taken as the animals of the book."""
+    rows = [row.replace("A", "a ").replace(";20", ";19") for row in flock("A")]
     refused(
         taken, sheet(rows), "it looks like the same animals, whose ids differ in case, blanks or zeros"
     )

@@ -25,6 +25,25 @@ def test_parent_written_otherwise(desk: Desk) -> None:
     assert " 8 inferred, 2 left out (2 parents), 4 added" in done.last
 
 
+MANY = "IE 12-{}01;Max;M;2001-03-01;;\nIE 12-{}02;Eva;F;2001-03-02;;\nIE 12-{}03;;F;2004-01-01;IE 12-{}01;IE 12-{}02\n"
+
+
+@pytest.mark.parametrize("between, zeros", [("", "00"), (" ", "00"), (".", "00"), ("/", "00")])
+def test_ids_written_otherwise_throughout(desk: Desk, between: str, zeros: str) -> None:
+    """The rows are the animals of the book, which keep their ids, and a new one has its id of the sheet."""
+    first = TITLES + MANY.replace("{}", "00")
+    desk.take(first)
+    ids = {*desk.numbers()}
+    again = MANY.replace("{}", zeros).replace("IE 12-", f"IE{between}12{between}")
+    new = f"IE{between}12{between}{zeros}99;;F;2005-01-01;IE{between}12{between}{zeros}01;\n"
+    for count in 1, 0:
+        done = desk.take(TITLES + again + new)
+        assert f" {count} new, 0 changed" in done.last and "0 gone" in done.last
+        assert "3 ids of the sheet differ from those of the book in case, blanks, signs or zeros alone" in done.out
+    assert {*desk.numbers()} - ids == {new.split(";")[0]} and desk.parents()[new.split(";")[0]][0] == "IE 12-0001"
+    assert "differ from those of the book" not in desk.take(first + new).out
+
+
 def test_more_than_one_is_meant(desk: Desk) -> None:
     done = desk.take(
         TITLES

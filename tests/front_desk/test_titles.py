@@ -155,3 +155,26 @@ def test_rows_as_a_spreadsheet_counts_them(desk: Desk) -> None:
     """Titles and cells of several lines, and empty rows, are a row each."""
     sheet = 'id,sex,"date of\nbirth",sire,dam,"note\non it"\na,M,2001-01-01,,,"one\ntwo\nthree"\n\nb,,2002-01-01,b,,\n'
     desk.take(sheet).tells("line 4: b: its sire b is left out: b would be its own ancestor (b > b)")
+
+
+# -- titles in two lines
+
+IN_TWO_LINES = "Tier;;;;{};;{};;{};\nNr;Name;Geschlecht;geb.;Nr;Name;Nr;Name;Name;Ort\n"
+IN_TWO_LINES += "101;Max;m;13.4.2019;;;;;Huber;Wien\n102;Lena;w;14.4.2019;;;;;Huber;Linz\n"
+IN_TWO_LINES += "103;Mona;w;15.5.2020;101;Max;102;Lena;Mayr;Linz\n"
+
+
+@pytest.mark.parametrize("upper", [("Vater", "Mutter", "Halter"), ("Sire", "Dam", "Owner")])
+def test_titles_in_two_lines(desk: Desk, upper: tuple[str, str, str]) -> None:
+    """Those of parents and owners stand above what is said of them."""
+    for new in 3, 0:
+        done = desk.take(IN_TWO_LINES.format(*upper))
+        assert "the titles stand in two lines: 'Nr', 'Name'" in done.told and "title 'Name' stands" not in done.told
+        assert f" {new} new, 0 changed" in done.last and desk.parents()["103"] == ("101", "102")
+        assert [row["owner"] for row in desk.listed("list", "--columns", "owner")] == ["Huber", "Huber", "Mayr"]
+
+
+def test_line_above_the_titles(desk: Desk) -> None:
+    """An owner who is named above the only column of names is none of its title."""
+    done = desk.take("Besitzer;Huber;;;;\nName;Nr;Geschlecht;geb.;Vater;Mutter\nMax;101;m;13.4.2019;;\n")
+    assert "two lines" not in done.told and "name from 'Name'" in done.out

@@ -29,6 +29,7 @@ from gudokeyi.ingest.shown_cells import Shown
 from gudokeyi.ingest.stray_quotes import with_marks_doubled, with_rows_parted
 from gudokeyi.ingest.struck_texts import NOTHING_STRUCK, Struck
 from gudokeyi.ingest.texts import clean
+from gudokeyi.ingest.titles_above import tell_joined, titles_joined
 from gudokeyi.ingest.titles_within import in_order, needed_in
 from gudokeyi.ingest.workbooks import Formulas, NamedBefore, RowsOfExits, best_of, read_workbook
 
@@ -255,8 +256,11 @@ def read_sheet(file: GivenFile, score: Score, worksheet: str = "", before: Named
         below = [row._replace(cells=ordered.cells(*row)) if row.line in others else row for row in below]
     texts = [one for one in apostrophes if one > line]
     unread = read.unread + ([Apostrophes(len(texts), texts[0])] if texts else [])
+    joined = titles_joined(titles, above)
+    unread += tell_joined(titles, joined)
+    all_titles = [joined.get(at, title) for at, title in enumerate(ordered.titles)] if joined else ordered.titles
     return Sheet(
-        line, ordered.titles, below, read.how, read.faults, {}, ordered.places(unseen), read.formulas, unread, above,
+        line, all_titles, below, read.how, read.faults, {}, ordered.places(unseen), read.formulas, unread, above,
         decision=Decision(read.tops, read.best, read.taken, first, at), worksheets=read.worksheets,
         as_before=read.as_before, of_exits=read.of_exits, grey=marked_by_grey(read.grey, line, len(below)),
         colored=marked_by_color(read.colored, line, len(below)), hidden=read.hidden,

@@ -31,6 +31,7 @@ from gudokeyi.reconcile.earlier_sales import leave_earlier_sales
 from gudokeyi.reconcile.exits import leave_out_early_exits, tell_most_changed, tell_withdrawn_exits
 from gudokeyi.reconcile.findings.obstacles import StrictlyNothing
 from gudokeyi.reconcile.findings.own_columns import BreedersNotKept
+from gudokeyi.reconcile.ids_as_in_book import call_as_in_book
 from gudokeyi.reconcile.ids import call_as_now, give_numbers, letters_unsaid, numbers_begin
 from gudokeyi.reconcile.import_options import (
     ImportOptions, again, limits_of, remember, remember_columns, remember_no_animals, remember_refused,
@@ -274,6 +275,7 @@ def import_sheet_into(
 def next_book_of(book: Book, read: ReadSheet, last: LastReading | None) -> NextBook:
     """The animals of the rows, with what these don't say and the book has."""
     call_as_now(read.animals, book, read.report)
+    call_as_in_book(read.animals, book, read.report)
     next_book = NextBook(
         book, read.animals, set(read.columns.found), read.report, read.rows.cells.days, in_book=read.in_book,
         last_found=last.found if last else None,

@@ -9,7 +9,7 @@ from gudokeyi.domain.findings import Finding, Severity, Suggestion, What, column
 from gudokeyi.domain.kinds import Field
 from gudokeyi.domain.messages import AnyOf
 from gudokeyi.domain.own_columns import OwnKind
-from gudokeyi.domain.wording import AllOf, Counted, Joined, OptionalPart, Text
+from gudokeyi.domain.wording import AllOf, Counted, Joined, OptionalPart, Quoted, Text
 from gudokeyi.ingest.titles import title_list
 
 # a sheet that lacks so many of its columns may have its titles elsewhere
@@ -45,6 +45,20 @@ class TitleTwice(SheetFinding):
 
     def values(self) -> Mapping[str, object]:
         return {"columns": AllOf(self.columns), "differ": not self.have_same_cells}
+
+
+@dataclass(frozen=True, slots=True)
+class TitlesJoined(SheetFinding):
+    """Columns above whose titles stands one of several columns: their own titles, and both together."""
+
+    lower: tuple[str, ...]
+    both: tuple[str, ...]
+
+    code = "titles joined"
+    message = Text("the titles stand in two lines: {lower_titles} is read as {titles}")
+
+    def values(self) -> Mapping[str, object]:
+        return {"lower_titles": Quoted(self.lower), "titles": Quoted(self.both)}
 
 
 @dataclass(frozen=True, slots=True)

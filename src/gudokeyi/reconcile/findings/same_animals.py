@@ -135,6 +135,26 @@ class IdsWithApostrophe(SheetFinding):
 
 
 @dataclass(frozen=True, slots=True)
+class IdsAsInBook(SheetFinding):
+    """Ids that are written otherwise than in the book: how many, the first, and what it is there."""
+
+    count: int
+    line: int
+    text: str
+    id: str
+
+    severity = Severity.ANIMALS
+    code = "ids as in book"
+    message = Counted(
+        "{count} id of the sheet differs from one of the book in case, blanks, signs or zeros alone, '{text}' in line "
+        "{line} from {id}: the row is taken as that animal, whose id stays as in the book",
+        "{count} ids of the sheet differ from those of the book in case, blanks, signs or zeros alone, the first '{text}' "
+        "in line {line} from {id}: these rows are taken as those animals, whose ids stay as in the book",
+        "count",
+    )
+
+
+@dataclass(frozen=True, slots=True)
 class IdsExchanged(PlausibilityWarning):
     """Two rows, each with the name, the birth day and the parents that the book has of the other one's id."""
 
