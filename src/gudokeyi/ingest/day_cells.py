@@ -24,7 +24,7 @@ from gudokeyi.ingest.findings.sheets import NoOrderShown, OneWrongOrder, Place, 
 from gudokeyi.ingest.seasons import last_month
 from gudokeyi.ingest.texts import plain
 from gudokeyi.ingest.words import (
-    DEAD, KNOWN_SINCE_BIRTH, exit_word, is_still_there, lives, state_exit, word_fault,
+    DEAD, KNOWN_SINCE_BIRTH, besides_undone, exit_word, is_still_there, lives, state_exit, word_fault,
 )  # fmt: skip
 from gudokeyi.ingest.words_beside import words_beside
 
@@ -164,7 +164,7 @@ class DayCells:
         }
 
     def read_exit(self, text: str) -> ExitCell | None:
-        is_day = usual_day(text) is not None
+        text, is_day = besides_undone(text), usual_day(text) is not None
         if not is_day and (is_still_there(text) or is_planned(text) and self.is_to_come(text)):
             return NO_EXIT
         if not is_day and lives(text):

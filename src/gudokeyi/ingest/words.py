@@ -359,6 +359,7 @@ UNDONE = re.compile(
     r"fell through|annulée?s?)\b",
     re.IGNORECASE,
 )
+SEPARATORS = re.compile(r"[,;]|\.\s")
 # what became of relatives and young
 OF_SEVERAL = "morts, mortes, vendus, vendues, décédés, décédées, abattus, abattues"
 OF_OTHERS = leaving_others(
@@ -459,6 +460,17 @@ def tells_of_itself(text: str) -> bool:
 def is_undone(text: str) -> bool:
     """Does it tell of an exit that was undone, as `Verkauf 2019 rückgängig`, and of no death?"""
     return UNDONE.search(text) is not None and not has_word(text, KNOWN_DEATHS)
+
+
+def besides_undone(text: str) -> str:
+    """What a text tells of a death besides a sale that was undone, as `gestorben 2020` of `Verkauf 2019 rückgängig,
+    gestorben 2020`; else all of it."""
+    if not (UNDONE.search(text) and has_word(text, KNOWN_DEATHS)):
+        return text
+    parts = SEPARATORS.split(text)
+    undone = [at for at, part in enumerate(parts) if UNDONE.search(part)]
+    others = [part for part in (*parts[undone[-1] + 1 :], *parts[: undone[0]]) if has_word(part, KNOWN_DEATHS)]
+    return others[0].strip() if others else text
 
 
 def is_for_sale(text: str) -> bool:
