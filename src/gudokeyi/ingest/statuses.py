@@ -20,8 +20,8 @@ from gudokeyi.ingest.titles import (
     KNOWN_STATES, KNOWN_STATUSES, OF_LIVING, names_exits_alone, names_other_exits, said_of,
 )  # fmt: skip
 from gudokeyi.ingest.words import (
-    DEAD, EXITS, KNOWN_DEATHS, KNOWN_YES, PLAIN_EXITS, exit_word, has_word, is_still_there, lives, lives_besides, owner_change,
-    says_lives,
+    DEAD, EXITS, KNOWN_DEATHS, KNOWN_YES, PLAIN_EXITS, exit_word, has_word, is_still_there, lives, lives_besides,
+    owner_change, says_lives,
 )  # fmt: skip
 
 # an owner who takes an animal

@@ -114,14 +114,16 @@ AROUND_EXITS = (
 STILL_THERE = (
     "retired, retirement, pensioned, in retirement, loaned, on loan, lent, leased, on lease, leased out, castrated, "
     "gelded, neutered, spayed, covered, served, mated, inseminated, bred, pregnant, in foal, in calf, in lamb, in kid, "
-    "weaned, vaccinated, vaccination, shorn, shearing, castration, loan, chipped, returned, came back, for sale, reserved, exhibited, "
+    "weaned, vaccinated, vaccination, shorn, shearing, loan, chipped, returned, came back, for sale, reserved, "
+    "exhibited, "
     "Zuchtruhe, im Ruhestand, Ruhestand, Rente, in Rente, Rentner, Gnadenbrot, in Pension, Pension, Pensionsstall, "
     "verliehen, ausgeliehen, Leihgabe, Leihe, geliehen, verpachtet, kastriert, kastr, Kastration, sterilisiert, "
-    "gedeckt, belegt, besamt, Besamung, Deckeinsatz, Bedeckung, trächtig, tragend, abgesetzt, geimpft, Impfung, Schur, entwurmt, gesperrt, "
+    "gedeckt, belegt, besamt, Besamung, Deckeinsatz, Bedeckung, trächtig, tragend, abgesetzt, geimpft, Impfung, "
+    "Schur, entwurmt, gesperrt, "
     "ausgestellt, geschoren, gechipt, zurück, zurückgekommen, zurückgekehrt, zu verkaufen, reserviert, "
     "retraité, retraitée, retraite, à la retraite, en retraite, mis à la retraite, en pension, mis en pension, prêté, "
     "prêtée, prêt, en prêt, loué, louée, castré, castrée, castration, stérilisé, stérilisée, saillie, sailli, saillies, "
-    "couverte, inséminé, inséminée, insémination, gestante, pleine, gravide, sevré, sevrée, vacciné, vaccinée, vaccination, tondu, "
+    "couverte, inséminé, inséminée, insémination, gestante, pleine, gravide, sevré, sevrée, vacciné, vaccinée, tondu, "
     "tondue, tonte, pucé, pucée, revenu, revenue, de retour, retour, à vendre, réservé, réservée, exposé, exposée, "
     "non-breeding, non breeder, nicht zur Zucht, nicht in Zucht, zuchtuntauglich, zuchtunfähig, zuchtgesperrt, "
     "Zuchtsperre, Zuchtverbot, non reproducteur, non reproductrice, hors reproduction"
@@ -136,7 +138,7 @@ OTHER_EVENTS = (
 OWNER_CHANGES = (
     "changement de propriétaire, changement de détenteur, changement propriétaire, mutation, transfert, cession, "
     "change of owner, change of ownership, owner change, ownership change, ownership transfer, transfer, transferred, "
-    "Besitzerwechsel, Besitzwechsel, Besitzwechs, Halterwechsel, Eigentümerwechsel, Eigentumswechsel, Wechsel, Umstellung"
+    "Besitzerwechsel, Besitzwechsel, Halterwechsel, Eigentümerwechsel, Eigentumswechsel, Wechsel, Umstellung"
 )
 # words that tell that an animal came back
 RETURNS = (
