@@ -22,7 +22,7 @@ COUNTS = (
 )  # fmt: skip
 KNOWN_COUNTS = {plain(word): at for at, words in enumerate(COUNTS) for word in listed(words)}
 # titles of the days since when, beside those that stand alone, and of those until when
-SINCE = {*KNOWN_TITLES[Field.SINCE]} | {plain(word) for word in listed("from, from date, date from, ab, dès, à partir de")}
+SINCE = {plain(word) for word in listed("from, from date, date from, ab, dès, à partir de")} | {*KNOWN_TITLES[Field.SINCE]}
 UNTIL = {plain(word) for word in listed("until, to, till, bis, jusqu'au, jusque, au")}
 
 
@@ -87,7 +87,9 @@ def are_days(cells: Sequence[str]) -> bool:
     return 2 * sum(map(is_span, said)) > len(said)
 
 
-def with_owners_of_now(rows: Sequence[SheetRow], sheet: Sheet, columns: Mapping[str, int]) -> dict[Field, dict[int, str]]:
+def with_owners_of_now(
+    rows: Sequence[SheetRow], sheet: Sheet, columns: Mapping[str, int]
+) -> dict[Field, dict[int, str]]:
     """The owners of now, and the days since when, where others than the first column has; by the places of rows."""
     turn = owners_in_turn(sheet, columns)
     found: dict[Field, dict[int, str]] = {Field.OWNER: {}, Field.SINCE: {}}

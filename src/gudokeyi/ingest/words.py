@@ -182,7 +182,7 @@ OTHER_EVENTS = (
 OWNER_CHANGES = (
     "changement de propriétaire, changement de détenteur, changement propriétaire, mutation, transfert, cession, "
     "change of owner, change of ownership, owner change, ownership change, ownership transfer, transfer, transferred, "
-    "Besitzerwechsel, Besitzwechsel, Besitzwechs, Halterwechsel, Eigentümerwechsel, Eigentumswechsel, Wechsel, Umstellung"
+    "Besitzerwechsel, Besitzwechsel, Halterwechsel, Eigentümerwechsel, Eigentumswechsel, Wechsel, Umstellung"
 )
 # words that tell that an animal came back
 RETURNS = (

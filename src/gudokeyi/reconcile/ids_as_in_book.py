@@ -24,7 +24,7 @@ def without_signs(id: str) -> str:
 
 
 # what ids have but for zeros before each of their numbers, or but for signs and for zeros before a whole number
-FORMS = nearly, without_signs
+FORMS: tuple[Callable[[str], str], ...] = (nearly, without_signs)
 
 
 def call_as_in_book(animals: dict[str, SheetAnimal], book: Book, report: Report) -> None:
