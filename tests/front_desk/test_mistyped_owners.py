@@ -16,7 +16,7 @@ from gudokeyi.ingest.animals import SheetAnimal
 from gudokeyi.ingest.doubtful_owners import is_no_name
 from gudokeyi.ingest.texts import plain
 from gudokeyi.reconcile.findings.animals import OwnerMistyped, OwnerRespelt, OwnersAlike, OwnersOtherwise, Spelling
-from gudokeyi.reconcile.findings.plausibility import OwnerOfGeneration, OwnerOfSeveral, OwnerWithInitial, OwnerWithMore
+from gudokeyi.reconcile.findings.owners import OwnerOfGeneration, OwnerOfSeveral, OwnerWithInitial, OwnerWithMore
 from gudokeyi.reconcile.next_book import NextBook
 from gudokeyi.reconcile.owner_words import tell_owners_of_like_words
 from gudokeyi.reconcile.owners import (

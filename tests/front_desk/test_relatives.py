@@ -3,7 +3,7 @@ from __future__ import annotations
 
 import pytest
 
-from gudokeyi.ingest.words import tells_of_others
+from gudokeyi.ingest.exit_words import tells_of_others
 from front_desk.desk import Desk
 
 TITLES = "Tag,Name,Sex,DOB,Sire,Dam,Owner,Bemerkung\n"

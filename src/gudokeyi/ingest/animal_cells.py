@@ -22,9 +22,8 @@ from gudokeyi.ingest.findings.columns import SheetFinding
 from gudokeyi.ingest.findings.exits import (
     ExitInDoubt, ExitInferred, ExitsInOtherWords, ExitsWithoutDay, Remark, told_of_remarks,
 )  # fmt: skip
-from gudokeyi.ingest.findings.rows import (
-    OwnerInExit, OwnerSold, SoldEarlier, SoldThenLeft, SoldWithin, StatusDisagrees, TakerUnclear,
-)  # fmt: skip
+from gudokeyi.ingest.findings.rows import StatusDisagrees
+from gudokeyi.ingest.findings.sales import OwnerInExit, OwnerSold, SoldEarlier, SoldThenLeft, SoldWithin, TakerUnclear
 from gudokeyi.ingest.findings.sexes import SexesUnknown, SexesUnsure, UnknownSex
 from gudokeyi.ingest.findings.sheets import (
     MOST_TEXTS, Cells, CellsUnread, ErrorCells, ErrorColumn, NarrowCells, NarrowColumn, TextCount,
@@ -36,7 +35,8 @@ from gudokeyi.ingest.statuses import parted_at_death, taker_of_owner
 from gudokeyi.ingest.texts import plain
 from gudokeyi.ingest.titles import names_other_exits
 from gudokeyi.ingest.unknown_parents import UnknownParents, names_no_owner
-from gudokeyi.ingest.words import KNOWN_NO, KNOWN_SALES, KNOWN_YES, exit_word, is_error_value
+from gudokeyi.ingest.exit_words import exit_word
+from gudokeyi.ingest.words import KNOWN_NO, KNOWN_SALES, KNOWN_YES, is_error_value
 
 # The cells of a sheet that can't be read: which texts there are, and whether they are most of a column.
 

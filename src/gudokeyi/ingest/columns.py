@@ -39,10 +39,8 @@ from gudokeyi.ingest.titles import (
     TITLES, known_titles, names_both_sexes, names_exit_days, names_exits_alone, said_of,
 )  # fmt: skip
 from gudokeyi.ingest.texts import plain
-from gudokeyi.ingest.words import (
-    DEAD, KNOWN_EXITS, KNOWN_NOTHING, KNOWN_STAYS, KNOWN_STILL_THERE, LETTER, TELLING_EXITS, has_word, state_exit,
-    tells_of_others,
-)  # fmt: skip
+from gudokeyi.ingest.exit_words import DEAD, TELLING_EXITS, state_exit, tells_of_others
+from gudokeyi.ingest.words import KNOWN_EXITS, KNOWN_NOTHING, KNOWN_STAYS, KNOWN_STILL_THERE, LETTER, has_word
 
 
 @dataclass

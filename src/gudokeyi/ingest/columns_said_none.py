@@ -13,7 +13,7 @@ from gudokeyi.ingest.findings.columns_unread import ExitsSinceSaid, SaidNone
 from gudokeyi.ingest.sheets import Sheet
 from gudokeyi.ingest.texts import plain
 from gudokeyi.ingest.titles import said_of
-from gudokeyi.ingest.words import exit_word, is_still_there, lives
+from gudokeyi.ingest.exit_words import exit_word, is_still_there, lives
 
 # so many lines of further exits are told
 MOST_LINES = 20

@@ -23,9 +23,8 @@ from gudokeyi.ingest.findings.days import DayReading
 from gudokeyi.ingest.findings.sheets import NoOrderShown, OneWrongOrder, Place, WrongOrder
 from gudokeyi.ingest.seasons import last_month
 from gudokeyi.ingest.texts import plain
-from gudokeyi.ingest.words import (
-    DEAD, KNOWN_SINCE_BIRTH, besides_undone, exit_word, is_still_there, lives, state_exit, word_fault,
-)  # fmt: skip
+from gudokeyi.ingest.exit_words import DEAD, besides_undone, exit_word, is_still_there, lives, state_exit, word_fault
+from gudokeyi.ingest.words import KNOWN_SINCE_BIRTH
 from gudokeyi.ingest.words_beside import words_beside
 
 # Whether days with slashes or hyphens have the day first or the month, as a sheet's own days show.

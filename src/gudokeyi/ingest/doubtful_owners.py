@@ -5,7 +5,8 @@ import re
 
 from gudokeyi.ingest.statuses import taker_of_owner
 from gudokeyi.ingest.texts import listed, plain
-from gudokeyi.ingest.words import DEAD, KNOWN_NO_NAMES, PLAIN_EXITS, TELLING_EXITS
+from gudokeyi.ingest.exit_words import DEAD, PLAIN_EXITS, TELLING_EXITS
+from gudokeyi.ingest.words import KNOWN_NO_NAMES
 
 WORD, A_DAY = re.compile(r"[^\W_]+"), re.compile(r"\d{1,4}[./-]\d{1,2}[./-]\d{2,4}")
 BESIDE = {"am", "on", "le", "im", "in", "en"}

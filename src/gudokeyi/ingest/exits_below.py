@@ -14,7 +14,8 @@ from gudokeyi.ingest.findings.exit_tables import ExitsBelow, ExitsBelowUnread
 from gudokeyi.ingest.sheets import Sheet, SheetRow, cell_of, with_cell
 from gudokeyi.ingest.texts import plain
 from gudokeyi.ingest.titles import KNOWN_DOUBTFUL, KNOWN_TITLES, names_exits_alone
-from gudokeyi.ingest.words import DEAD, TELLING_EXITS, has_word, is_still_there, lives, says_exits
+from gudokeyi.ingest.exit_words import DEAD, TELLING_EXITS, is_still_there, lives, says_exits
+from gudokeyi.ingest.words import has_word
 
 # so many cells of such a row may say more of an exit than its day and its kind, as why
 MOST_MORE = 2

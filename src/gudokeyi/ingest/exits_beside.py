@@ -22,10 +22,10 @@ from gudokeyi.ingest.titles import (
     BETWEEN_WORDS, DEATHS, KNOWN_CAUSES, KNOWN_DOUBTFUL, KNOWN_REASONS, KNOWN_TITLES, SALE_DAYS, is_cross_title,
     names_exit_days, names_other_exits, said_of,
 )  # fmt: skip
-from gudokeyi.ingest.words import (
-    KNOWN_EXITS, KNOWN_NO, KNOWN_SALES, KNOWN_YES, LETTER, PLAIN_EXITS, exit_word, has_word, is_still_there, lives,
-    owner_change, says_lives, tells_of_others,
+from gudokeyi.ingest.exit_words import (
+    PLAIN_EXITS, exit_word, is_still_there, lives, owner_change, says_lives, tells_of_others,
 )  # fmt: skip
+from gudokeyi.ingest.words import KNOWN_EXITS, KNOWN_NO, KNOWN_SALES, KNOWN_YES, LETTER, has_word
 
 # titles of columns that say to whom animals were sold, by how the cell of an exit says so
 BUYERS = {

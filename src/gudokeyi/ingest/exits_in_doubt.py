@@ -4,7 +4,8 @@ from __future__ import annotations
 import re
 
 from gudokeyi.ingest.texts import listed, plain
-from gudokeyi.ingest.words import DEAD, KNOWN_DEATHS, KNOWN_RETURNS, TELLING_EXITS, has_word
+from gudokeyi.ingest.exit_words import DEAD, KNOWN_DEATHS, TELLING_EXITS
+from gudokeyi.ingest.words import KNOWN_RETURNS, has_word
 
 # words by which the animal is there all the same
 THERE_YET = (

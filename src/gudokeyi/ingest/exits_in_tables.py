@@ -12,7 +12,7 @@ from gudokeyi.ingest.findings.exit_tables import ExitsBeside, WorksheetOfExits
 from gudokeyi.ingest.sheets import Sheet, SheetRow
 from gudokeyi.ingest.texts import nearly, nearly_all, plain
 from gudokeyi.ingest.titles import KNOWN_TITLES
-from gudokeyi.ingest.words import says_exits
+from gudokeyi.ingest.exit_words import says_exits
 from gudokeyi.ingest.workbooks import RowsOfExits
 
 # so many animals a table has that no empty column parts from the list

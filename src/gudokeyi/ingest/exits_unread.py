@@ -17,7 +17,8 @@ from gudokeyi.ingest.findings.sheets import MOST_SHOWN
 from gudokeyi.ingest.sheets import Sheet
 from gudokeyi.ingest.texts import listed, plain
 from gudokeyi.ingest.titles import KNOWN_STATES, OF_LIVING, said_of
-from gudokeyi.ingest.words import KNOWN_YES, lives
+from gudokeyi.ingest.exit_words import lives
+from gudokeyi.ingest.words import KNOWN_YES
 
 # so many letters a code has, and so many different ones a column; in so many cells they tell something
 LONGEST, MOST_CODES, LEAST = 2, 9, 3

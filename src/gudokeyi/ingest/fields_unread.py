@@ -16,7 +16,8 @@ from gudokeyi.ingest.findings.sheets import MOST_SHOWN
 from gudokeyi.ingest.sex_marks import marks_told
 from gudokeyi.ingest.texts import listed, plain
 from gudokeyi.ingest.titles import BETWEEN_WORDS, KNOWN_PAIRS
-from gudokeyi.ingest.words import KNOWN_SEXES, LETTER, TELLING_EXITS, has_word, sex_word
+from gudokeyi.ingest.exit_words import TELLING_EXITS
+from gudokeyi.ingest.words import KNOWN_SEXES, LETTER, has_word, sex_word
 
 if TYPE_CHECKING:
     from gudokeyi.ingest.columns import Columns

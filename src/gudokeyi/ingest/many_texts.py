@@ -13,7 +13,8 @@ from gudokeyi.ingest.remarks import (
     AROUND, CROSS_OF_DAY, KNOWN_ALONE, KNOWN_CASTRATIONS, KNOWN_IN_REMARKS, KNOWN_LOSSES, KNOWN_PLAIN,
 )  # fmt: skip
 from gudokeyi.ingest.texts import listed, plain
-from gudokeyi.ingest.words import CASTRATED, DEAD, FORMER, KNOWN_CASTRATED
+from gudokeyi.ingest.exit_words import DEAD
+from gudokeyi.ingest.words import CASTRATED, FORMER, KNOWN_CASTRATED
 
 # so many texts are looked at one by one
 FEW = 2000

@@ -12,7 +12,8 @@ from gudokeyi.ingest.exits_beside import columns_beside
 from gudokeyi.ingest.findings.columns_unread import CorrectionsUnread, DeletedRows, StillbornUnread
 from gudokeyi.ingest.texts import listed, nearly, plain
 from gudokeyi.ingest.titles import BETWEEN_WORDS, KNOWN_TITLES, said_of
-from gudokeyi.ingest.words import KNOWN_NO, lives
+from gudokeyi.ingest.exit_words import lives
+from gudokeyi.ingest.words import KNOWN_NO
 
 STILLBORN = {
     plain(title)

@@ -7,10 +7,8 @@ from collections.abc import Collection, Iterable, Iterator
 from gudokeyi.ingest.born_dead import YOUNG, without_young
 from gudokeyi.ingest.days import MONTHS, compared, places_within
 from gudokeyi.ingest.texts import listed, plain
-from gudokeyi.ingest.words import (
-    AROUND_EXITS, DEAD, KNOWN_BORN_DEAD, KNOWN_CASTRATED, KNOWN_NEGATIONS, LETTER, PLAIN_EXITS, TELLING_EXITS, has_word,
-    is_still_there,
-)  # fmt: skip
+from gudokeyi.ingest.exit_words import DEAD, PLAIN_EXITS, TELLING_EXITS, is_still_there
+from gudokeyi.ingest.words import AROUND_EXITS, KNOWN_BORN_DEAD, KNOWN_CASTRATED, KNOWN_NEGATIONS, LETTER, has_word
 
 # besides those that tell of an exit wherever they stand in a remark
 KNOWN_PLAIN = PLAIN_EXITS | {

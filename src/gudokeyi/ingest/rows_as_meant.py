@@ -34,9 +34,8 @@ from gudokeyi.ingest.sheets import Sheet, SheetRow, cell_of, with_cell
 from gudokeyi.ingest.statuses import SOLD, TAKER, exits_said
 from gudokeyi.ingest.texts import nearly, plain, shape, shapes_of
 from gudokeyi.ingest.unknown_parents import UnknownParents, names_no_owner
-from gudokeyi.ingest.words import (
-    KNOWN_EXITS, KNOWN_SEXES, KNOWN_SUMS, is_for_sale, is_undone, lives_besides, sex_word,
-)  # fmt: skip
+from gudokeyi.ingest.exit_words import is_for_sale, is_undone, lives_besides
+from gudokeyi.ingest.words import KNOWN_EXITS, KNOWN_SEXES, KNOWN_SUMS, sex_word
 
 # Cells with signs that no one sees: they are read without, but an id, which others write otherwise than it is seen.
 

@@ -20,10 +20,11 @@ from gudokeyi.ingest.texts import listed, plain
 from gudokeyi.ingest.titles import (
     KNOWN_STATES, KNOWN_STATUSES, OF_LIVING, names_exits_alone, names_other_exits, said_of,
 )  # fmt: skip
-from gudokeyi.ingest.words import (
-    DEAD, EXITS, KNOWN_DEATHS, KNOWN_YES, PLAIN_EXITS, has_word, is_still_there, lives, lives_besides, owner_change,
-    says_lives, state_exit, tells_of_others,
+from gudokeyi.ingest.exit_words import (
+    DEAD, KNOWN_DEATHS, PLAIN_EXITS, is_still_there, lives, lives_besides, owner_change, says_lives, state_exit,
+    tells_of_others,
 )  # fmt: skip
+from gudokeyi.ingest.words import EXITS, KNOWN_YES, has_word
 
 # an owner who takes an animal
 TAKER = re.compile(

@@ -10,8 +10,9 @@ from gudokeyi.domain.kinds import Field
 from gudokeyi.domain.messages import Mistake, some_of
 from gudokeyi.ingest.messages import SheetFault
 from gudokeyi.ingest.texts import composed, listed, plain
+from gudokeyi.ingest.exit_words import SIGN
 from gudokeyi.ingest.words import (
-    CASTRATED_MALE, KNOWN_CASTRATED, KNOWN_EXITS, KNOWN_SALES, KNOWN_SEXES, KNOWN_YES, SIGN, sex_word,
+    CASTRATED_MALE, KNOWN_CASTRATED, KNOWN_EXITS, KNOWN_SALES, KNOWN_SEXES, KNOWN_YES, sex_word,
 )  # fmt: skip
 
 # What a column of a sheet may have, and the usual titles in English, German and French.

@@ -7,7 +7,8 @@ from collections.abc import Collection
 
 from gudokeyi.domain.cells import FIRST_LETTER
 from gudokeyi.ingest.texts import listed, plain, without_accents
-from gudokeyi.ingest.words import KNOWN_NO_OWNERS, SALE_NOT_MADE, UNKNOWN, is_error_value
+from gudokeyi.ingest.exit_words import SALE_NOT_MADE
+from gudokeyi.ingest.words import KNOWN_NO_OWNERS, UNKNOWN, is_error_value
 
 # signs alone, as `?`, `*` and `---`, zeros alone, as `00` and `0.0`, and the usual numbers as pandas writes them, as
 # `-9.0`

@@ -7,7 +7,8 @@ import re
 from gudokeyi.ingest.day_forms import MARKED, MONTH, MONTH_OF_EXIT, MONTH_WITHIN, TWO, UNSURE
 from gudokeyi.ingest.days import is_span, places_within
 from gudokeyi.ingest.seasons import SEASON, SHORT_SEASON, WEEK, WINTER, not_that
-from gudokeyi.ingest.words import DEAD, KNOWN_YES, LETTER
+from gudokeyi.ingest.exit_words import DEAD
+from gudokeyi.ingest.words import KNOWN_YES, LETTER
 
 # what stands between a word and its day
 SIGNS = " ,;:/=–—-"

@@ -31,7 +31,7 @@ from gudokeyi.ingest.other_worksheets import OtherIds, are_titles_of_animals, id
 from gudokeyi.ingest.shown_cells import Shown, shown_cells
 from gudokeyi.ingest.struck_texts import Place, Struck, StruckText, number_of, struck_texts
 from gudokeyi.ingest.texts import clean
-from gudokeyi.ingest.words import says_exits
+from gudokeyi.ingest.exit_words import says_exits
 
 # What the parts of a workbook would become: their cells are counted before they are made, since a file of few bytes may
 # ask for very many.

@@ -5,7 +5,7 @@ from __future__ import annotations
 from gudokeyi.domain.findings import Entry
 from gudokeyi.domain.kinds import CELL_FIELDS, Field
 from gudokeyi.ingest.animals import SheetAnimal
-from gudokeyi.ingest.findings.rows import SoldWithin
+from gudokeyi.ingest.findings.sales import SoldWithin
 from gudokeyi.reconcile.findings.rows import OwnerAfterSale
 from gudokeyi.reconcile.next_book import NextBook
 

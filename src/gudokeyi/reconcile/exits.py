@@ -18,7 +18,7 @@ from gudokeyi.ingest.animals import DAM_OF, LEFT_OF, SheetAnimal
 from gudokeyi.ingest.born_dead import born_dead_word
 from gudokeyi.ingest.exits_in_tables import worksheets_told
 from gudokeyi.ingest.exits_unread import ExitsUnread
-from gudokeyi.ingest.words import exit_word, lives, says_lives
+from gudokeyi.ingest.exit_words import exit_word, lives, says_lives
 from gudokeyi.ingest.words_beside import words_beside
 from gudokeyi.ingest.workbooks import RowsOfExits
 from gudokeyi.reconcile.findings.animals import KeptByHand, KeptFromBook

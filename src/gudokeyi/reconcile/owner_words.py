@@ -8,7 +8,7 @@ from collections.abc import Iterable, Iterator
 
 from gudokeyi.ingest.texts import plain
 from gudokeyi.reconcile.findings.animals import OwnersAlike, OwnersOtherwise, Spelling
-from gudokeyi.reconcile.findings.plausibility import MOST_OTHERS, OwnerOfGeneration, OwnerWithInitial
+from gudokeyi.reconcile.findings.owners import MOST_OTHERS, OwnerOfGeneration, OwnerWithInitial
 from gudokeyi.reconcile.next_book import NextBook
 from gudokeyi.reconcile.owners import A_NAME, FAMILY, OF_MEN, OF_WOMEN, TITLE, last_name, name_alone, owners_of_rows
 

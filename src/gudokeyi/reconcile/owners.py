@@ -13,13 +13,13 @@ from gudokeyi.ingest.doubtful_owners import WORD, is_no_name, is_telephone, tell
 from gudokeyi.ingest.odd_texts import counts_as_living
 from gudokeyi.ingest.statuses import taker_of_owner
 from gudokeyi.ingest.texts import plain
-from gudokeyi.ingest.words import BEGINS_BORN_DEAD, KNOWN_BORN_DEAD, PLAIN_EXITS, SALE_NOT_MADE, has_word
+from gudokeyi.ingest.exit_words import PLAIN_EXITS, SALE_NOT_MADE
+from gudokeyi.ingest.words import BEGINS_BORN_DEAD, KNOWN_BORN_DEAD, has_word
 from gudokeyi.reconcile.findings.animals import (
     OwnerMistyped, OwnerOfBookAlike, OwnerRenamed, OwnerRespelt, OwnersAlike, OwnersOtherwise, Spelling,
 )  # fmt: skip
-from gudokeyi.reconcile.findings.plausibility import (
-    BornDead, OwnerForSale, OwnerIsNoName, OwnerOfSeveral, OwnerWithMore,
-)  # fmt: skip
+from gudokeyi.reconcile.findings.owners import OwnerForSale, OwnerIsNoName, OwnerOfSeveral, OwnerWithMore
+from gudokeyi.reconcile.findings.plausibility import BornDead
 from gudokeyi.reconcile.next_book import NextBook
 
 # Owners that seem to be written otherwise: than before, where all animals of the one are of another who is much alike,

@@ -7,7 +7,7 @@ from collections.abc import Container, Iterator, Mapping, Sequence
 from typing import NamedTuple
 
 from gudokeyi.ingest.animals import LINE_OF, OWNER_OF
-from gudokeyi.reconcile.findings.plausibility import OwnersCountUp
+from gudokeyi.reconcile.findings.owners import OwnersCountUp
 from gudokeyi.reconcile.next_book import NextBook
 
 # so many rows below the first one have an owner of their own

@@ -12,7 +12,8 @@ from gudokeyi.ingest.findings.cells import BETWEEN_CELLS, IdAlone, NoId
 from gudokeyi.ingest.findings.rows import OF_OTHERS, NoteRow
 from gudokeyi.ingest.odd_texts import counts_as_living
 from gudokeyi.ingest.texts import listed, plain
-from gudokeyi.ingest.words import KNOWN_SEXES, has_word, says_exits, sex_word
+from gudokeyi.ingest.exit_words import says_exits
+from gudokeyi.ingest.words import KNOWN_SEXES, has_word, sex_word
 from gudokeyi.reconcile.findings.sections import SectionOfBirths, SectionOfExits, SectionOfSex, SectionsOfOwners
 from gudokeyi.reconcile.next_book import NextBook
 

@@ -12,7 +12,7 @@ from gudokeyi.domain.wording import Counted, Joined, OptionalPart, Quoted, Text
 from gudokeyi.ingest.exit_places import has_day
 from gudokeyi.ingest.findings.columns import SheetFinding
 from gudokeyi.ingest.findings.sheets import MOST_SHOWN, Cells
-from gudokeyi.ingest.words import exit_word, is_still_there, state_exit
+from gudokeyi.ingest.exit_words import exit_word, is_still_there, state_exit
 
 # so many lines are named
 MOST_LINES = 20
