@@ -143,10 +143,10 @@ def test_members_beside_owners(desk: Desk) -> None:
     assert "owner from 'Besitzer'" in done.out and "not read: 'Mitglied'" in done.out
     done.shows(
         "to look at: 2 rows have nothing in 'Besitzer', and a name in 'Mitglied', the first 'Huber' in line 3, the others "
-        "in 4: no owner is taken from there; if they are the owners, write them into 'Besitzer'"
+        "in 4: no owner is taken from there; if they are the owners, enter them in 'Besitzer'"
     )
     done = desk.take(text.replace("Besitzer", "Farbe"))
-    done.shows("to look at: no column for owner is found: it was 'Besitzer' at the last time; what the book has stays")
+    done.shows("to look at: no column for owner is found: last time it was 'Besitzer'; the book keeps what it has")
     assert words_of(done.commands()) == ["owner=Mitglied", "owner="]
 
 
@@ -164,6 +164,14 @@ def test_titles_of_first_days(desk: Desk, title: str) -> None:
     assert "since from 'Besitzer seit'" in done.out and "not read: 'Zukauf'" in done.out
     alone = desk.take(f"Ohrmarke;Geschlecht;geb;Vater;Mutter;Besitzer;Zukauf\n{rows.replace('3.4.2012', 'ja')}", "--book", "yes")
     assert "not read: 'Zukauf'" in alone.out and "to look at" not in alone.out
+
+
+def test_purchases_beside_animals_of_their_own(desk: Desk) -> None:
+    """Where most of a herd were never bought the days of the others are read all the same."""
+    born = "id;sex;born;sire;dam;owner;Purchased\na1;m;2015-03-12;;;Daly;2022-04-03\n"
+    rows = "".join(f"a{at};f;2016-03-12;;;Daly;{said}\n" for at, said in enumerate(("homebred", "since birth"), 2))
+    desk.take(born + rows)
+    assert "Daly, since 2022-04-03" in desk.good("show", "a1").out
 
 
 @pytest.mark.parametrize("title", ["gekauft", "Purchased", "Acheté"])

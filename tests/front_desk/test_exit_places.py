@@ -29,13 +29,14 @@ def left(desk: Desk, id: str) -> str:
 def test_places_in_a_column_of_states(desk: Desk, text: str, day: str) -> None:
     """A place of slaughter or sale tells there that the animal left."""
     done = desk.take(TITLES + "Status\n" + PAIR + f"a3;Cal;m;2018-03-13;a2;a1;Daly;{text}\n")
-    assert left(desk, "a3") == day and "tells of something else than an exit" not in done.told
+    assert left(desk, "a3") == day and "tells of something other than an exit" not in done.told
 
 
 @pytest.mark.parametrize(
     "text",
     [
-        "ex mart", "bought at mart", "for factory", "Martha", "factory tested", "moved out", "d. h.", "non reactor",
+        "ex mart", "bought at mart", "for factory", "Martha", "factory tested", "Mart champion 2022", "mart 3/4/22 unsold",
+        "reactor, retest clear 3/4/22", "Off farm grazing 3/4/22", "Factory visit 3/4/22", "moved out", "d. h.", "non reactor",
         "moved out to the hill", "Factory Lane", "returned from mart 3/4/2022",
     ],
 )  # fmt: skip
@@ -53,7 +54,7 @@ def test_words_with_a_day_that_are_not_known(desk: Desk) -> None:
         "first in line 4, the others in 7, 8: 'Zirkus 3.4.2022', 'Wanderschau 5.6.2022': these animals count as living, "
         "and what the cells say is kept as notes; if one has left, write the day alone, or a word such as sold, verkauft "
         "or vendu before it",
-        "to look at: 2 cells of the column 'Status' tell of something else than exits, the first in line 5: 'on loan "
+        "to look at: 2 cells of the column 'Status' tell of something other than exits, the first in line 5: 'on loan "
         "5.5.2021', 'pet only': these animals stay, and what the cells say is kept as notes; if one has left, write a day, "
         "or a word such as sold, verkauft or vendu",
     )

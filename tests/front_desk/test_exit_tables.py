@@ -138,3 +138,10 @@ def test_worksheets_of_others(desk: Desk, title: str, ids: list[str]) -> None:
     rows += [[id, "12.03.2025"] for id in ids]
     name = desk.write("sheet.xlsx", workbook(title, rows, exits=True))
     assert "count as living" not in desk.good("import", name, "--preview").out
+
+
+@pytest.mark.parametrize("title, titles", [("Tote 2025", ["Mutter", "Anzahl"]), ("Tote Lämmer", ["Ohrmarke", "Anzahl"])])
+def test_worksheets_of_young(desk: Desk, title: str, titles: list[object]) -> None:
+    """They name the dams, who live."""
+    name = desk.write("sheet.xlsx", workbook(title, [titles, ["CH03", 1], ["CH04", 2]]))
+    assert "count as living" not in desk.good("import", name, "--preview").out

@@ -23,13 +23,14 @@ def taken(desk: Desk, text: str) -> str:
     [
         f"sortie prévue 3/4/{(YEAR + 1) % 100}", f"sortie prévue 3/4/{YEAR + 1}", f"Verkauf geplant 3.4.{(YEAR + 1) % 100}",
         f"planned sale 3/4/{YEAR + 1}", "vente prévue", "soll geschlachtet werden", "soll heuer weg", "to be culled",
+        f"wird geschlachtet {YEAR + 1}", f"geht 1/{(YEAR + 1) % 100} an Moser",
         "due 3/4/2022", "piroplasmose 3/4/2022, guérie", "lahm 3.4.2022, geheilt", "mastitis 3/4/2022, recovered",
     ],
 )  # fmt: skip
 def test_no_exits(desk: Desk, text: str) -> None:
     """An exit that is to come is none, nor is an illness that is over: the animal stays, and the cell is a note."""
     told = taken(desk, text)
-    assert f"tells of something else than an exit, in line 5: '{text}': the animal stays" in told
+    assert f"tells of something other than an exit, in line 5: '{text}': the animal stays" in told
     assert not left(desk, "a3") and "two digits" not in told
 
 
@@ -64,4 +65,4 @@ def test_other_exits_after_today(desk: Desk, text: str) -> None:
 )  # fmt: skip
 def test_still_there(desk: Desk, text: str) -> None:
     """An exit after which the animal is said to be there isn't sure."""
-    assert f"a3: to look at: '{text}' tells of an exit that isn't sure" in taken(desk, text) and left(desk, "a3")
+    assert f"a3: to look at: '{text}' tells of an exit that isn't certain" in taken(desk, text) and left(desk, "a3")

@@ -65,10 +65,10 @@ def test_carrier_is_no_dam(desk: Desk, carrier: str, genetic: str) -> None:
 
 
 def test_carriers_alone(desk: Desk) -> None:
-    """No carrier is offered as a dam where a list has no dams."""
+    """No carrier is offered as a dam, but a column that has ids of the list is."""
     sheet = desk.write("sheet.csv", TITLES.format("Leihmutter", "Farbe") + EWES + LAMBS)
     done = desk.wrong("no column for dam is found", "import", sheet)
-    assert [one.partition("--columns ")[2] for one in done.commands()] == ["dam="]
+    assert [one.partition("--columns ")[2] for one in done.commands()] == ["dam=Farbe", "dam="]
 
 
 @pytest.mark.parametrize("title", ["Vater gemäss DNA", "Sire by DNA", "Père (ADN)", "Vater 2"])

@@ -188,9 +188,9 @@ def test_generations_in_a_sheet(desk: Desk) -> None:
     rows = "".join(f"{at};m;2001-01-01;;;{owner}\n" for at, owner in enumerate(owners, 1))
     desk.take("id;sex;birth;sire;dam;owner\n" + rows).tells(
         "to look at: the owner 'Mayr Josef' may be Mayr Josef jun. or Mayr Josef sen., as its name stands without sen. or "
-        "jun.: if they are one, write the name alike in all rows, and take the sheet again",
-        "to look at: the owner 'Leitner W., Ing.' may be Ing. Leitner Walter, whose first name begins so: if they are one, "
-        "write the name alike in all rows, and take the sheet again",
+        "jun.: if they are one, write the name the same way in all rows, and take the sheet again",
+        "to look at: the owner 'Leitner W., Ing.' may be Ing. Leitner Walter, whose first name begins with that initial: "
+        "if they are one, write the name the same way in all rows, and take the sheet again",
     )
     assert len(desk.owners()) == len(owners)
 

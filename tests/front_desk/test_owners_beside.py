@@ -111,6 +111,14 @@ def test_owners_in_turn(desk: Desk, titles: str, later: str, first: str) -> None
     assert " 0 changed" in desk.take(sheet).last
 
 
+def test_owners_in_turn_that_are_none(desk: Desk) -> None:
+    """Words for exits in the later columns are no owners, and a day beside a name is none of it."""
+    rows = "A1;Balz;12.03.2010;;;Daly;sold;\nA2;Gian;14.04.2010;;;Daly;dead 3/4/2022;\n"
+    rows += "A3;Reto;14.04.2010;;;Daly;Foley;Walsh 3/4/2022\n"
+    desk.take("Id;Name;Birth;Sire;Dam;1st Owner;2nd Owner;3rd Owner\n" + rows)
+    assert owners_listed(desk) == ["Daly", "Daly", "Walsh"]
+
+
 def test_owners_that_are_not_in_turn(desk: Desk) -> None:
     """Those that count without days may own an animal together, and until when says that the second was before."""
     for titles in ("Besitzer 1;Besitzer 2;Bemerkung", "1st Owner;2nd Owner;Until"):

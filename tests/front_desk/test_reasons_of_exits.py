@@ -358,7 +358,7 @@ def test_causes_that_are_no_exits(desk: Desk, titles: str, cells: str) -> None:
     first = "mort;1.2.2020" if titles.startswith("Grund") else "1.2.2020;mort"
     sheet = CAUSES.format(titles, first, cells)
     done = desk.take(sheet)
-    assert "tells of something else than an exit, in line 3: " in done.out and "not read" not in done.out
+    assert "tells of something other than an exit, in line 3: " in done.out and "not read" not in done.out
     assert reason(desk, "A1") == ("2020-02-01", "mort") and reason(desk, "A2")[0] == ""
     assert " 0 changed" in desk.take(sheet).last
 

@@ -59,7 +59,7 @@ def test_others_in_the_column(desk: Desk) -> None:
 def test_column_named_for_exits(desk: Desk) -> None:
     """Where somebody names the column, those whose parents left stay, which is told."""
     done = desk.take(TITLES + PAIR + YOUNG, "--preview", "--columns", "status=Bemerkung")
-    assert "2 cells of the column 'Bemerkung' tell of something else than exits, the first in line 4: 'Vater tot'" in done.out
+    assert "2 cells of the column 'Bemerkung' tell of something other than exits, the first in line 4: 'Vater tot'" in done.out
     assert "counts as gone" not in done.out
 
 

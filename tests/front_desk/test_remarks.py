@@ -141,7 +141,7 @@ def test_lines_of_remarks(desk: Desk) -> None:
     lines = ", ".join(map(str, range(5, 24)))
     told = f"24 cells of it tell that animals left which have no exit, the first is 'geschl. 3/01' in line 4, the others in {lines}"
     done.tells(
-        f"to look at: {OF_EXITS}{told} and 4 more; these animals count as living: if one left, write that into the column "
+        f"to look at: {OF_EXITS}{told} and 4 more; these animals count as living: if one left, enter that in the column "
         "for exits"
     )
     assert "c24" not in done.out

@@ -17,7 +17,7 @@ from gudokeyi.ingest.column_detection import MOST_COMPARED, IdColumn, LikelyColu
 from gudokeyi.ingest.columns_by_cells import read_by_cells
 from gudokeyi.ingest.days import is_span
 from gudokeyi.ingest.encodings import Letters, decoded_twice
-from gudokeyi.ingest.exits_beside import are_days, exit_columns, exit_day_columns, says_day
+from gudokeyi.ingest.exits_beside import are_purchases, exit_columns, exit_day_columns, says_day
 from gudokeyi.ingest.exits_unread import (
     ExitsUnread, causes_unread, codes_of_status, column_unread, living_unmarked, remarks_unread,
 )  # fmt: skip
@@ -219,7 +219,7 @@ def usual_column(columns: Columns, name: str) -> None:
     # one that has nothing is read where no other has its field
     for at in sorted(titled, key=lambda one: not any(columns.cells(one))):
         title = plain(columns.title(at))
-        if title in KNOWN_DOUBTFUL_DAYS and not are_days(columns.counts(at)):
+        if title in KNOWN_DOUBTFUL_DAYS and not are_purchases(columns.counts(at)):
             continue
         if title in KNOWN_DOUBTFUL_NAMES and not are_names(columns.counts(at)):
             continue

@@ -4,7 +4,7 @@ from __future__ import annotations
 
 import re
 
-from gudokeyi.ingest.texts import listed
+from gudokeyi.ingest.texts import listed, plain
 
 PLACES = (
     "factory, meat factory, meat works, meatworks, meat plant, abattoir, slaughterhouse, butcher, knackery, knacker, knackers, "
@@ -26,15 +26,24 @@ PLACE = re.compile(
 )
 # these tell of one with a day alone
 WITH_DAY = re.compile(rf"(?P<word>d\.|moved out|moved off|left farm)\W*{DAY}", re.IGNORECASE)
+# what may stand behind one, beside its name
+BEHIND = {
+    plain(word)
+    for word in listed("sold, killed, verkauft, geschlachtet, vendu, vendue, abattu, abattue, in, at, am, on, le, de")
+}
+WORD = re.compile(r"[^\W\d_]+")
 LETTER, SOME_DAY, ONE_DAY = re.compile(r"[^\W\d_]"), re.compile(DAY), re.compile(WHOLE_DAY)
 
 
 def place_of_exit(text: str) -> str:
-    """The word for such a place; beside it may stand which one it is where the text has a day too."""
+    """The word for such a place; beside it may stand its name where the text has a day too. Other words, as those of
+    `Mart champion 2022`, may tell of something else."""
     if found := WITH_DAY.match(text):
         return found["word"]
     found = PLACE.match(text)
-    return found["place"] if found and (SOME_DAY.search(text) or not LETTER.search(found["rest"])) else ""
+    if not found or any(word.islower() and plain(word) not in BEHIND for word in WORD.findall(found["rest"])):
+        return ""
+    return found["place"] if SOME_DAY.search(text) or not LETTER.search(found["rest"]) else ""
 
 
 def has_day(text: str) -> bool:

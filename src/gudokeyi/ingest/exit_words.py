@@ -1,4 +1,4 @@
-"""What a cell says of an exit in words: that an animal lives, or that it left, on which terms."""
+"""What a cell says of an exit in words: that an animal lives, that it left, or that neither is sure."""
 from __future__ import annotations
 
 import re
@@ -12,7 +12,6 @@ from gudokeyi.ingest.words import (
     EXITS, BORN_DEAD, LETTER, KNOWN_YES, KNOWN_NO, KNOWN_STAYS, KNOWN_AROUND_STAYS, KNOWN_EXITS, KNOWN_SHORT_EXITS,
     KNOWN_SALES, KNOWN_AROUND_EXITS, KNOWN_OWNER_CHANGES, KNOWN_NO_EXITS, KNOWN_NOTHING, KNOWN_NEGATIONS, has_word,
 )  # fmt: skip
-
 
 # `x`, `ja` and the like tell of an exit only where they stand alone
 TELLING_EXITS = KNOWN_EXITS - {plain(word) for word in KNOWN_YES}

@@ -25,7 +25,7 @@ from gudokeyi.ingest.titles import (
 from gudokeyi.ingest.exit_words import (
     PLAIN_EXITS, exit_word, is_still_there, lives, owner_change, says_lives, tells_of_others,
 )  # fmt: skip
-from gudokeyi.ingest.words import KNOWN_EXITS, KNOWN_NO, KNOWN_SALES, KNOWN_YES, LETTER, has_word
+from gudokeyi.ingest.words import KNOWN_EXITS, KNOWN_NO, KNOWN_SALES, KNOWN_SINCE_BIRTH, KNOWN_YES, LETTER, has_word
 
 # titles of columns that say to whom animals were sold, by how the cell of an exit says so
 BUYERS = {
@@ -121,6 +121,12 @@ def are_days(texts: Iterable[str]) -> bool:
     """Are most of some texts days, of which the first are looked at?"""
     some = [*itertools.islice(texts, MOST_TEXTS)]
     return 2 * sum(map(says_day, some)) > len(some)
+
+
+def are_purchases(texts: Iterable[str]) -> bool:
+    """Have most of some texts the day of a purchase, or say that there was none, as `homebred`?"""
+    some = [*itertools.islice(texts, MOST_TEXTS)]
+    return 2 * sum(says_day(text) or plain(text) in KNOWN_SINCE_BIRTH for text in some) > len(some)
 
 
 def says_plainly(word: str) -> bool:

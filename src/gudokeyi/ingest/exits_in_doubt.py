@@ -15,8 +15,9 @@ THERE_YET = (
 )
 KNOWN_THERE = KNOWN_RETURNS | {plain(word) for word in listed(THERE_YET)}
 PLANNED = re.compile(
-    r"\b(?:prévue?s?|planned|scheduled|geplante?[rs]?|vorgesehen|voraussichtlich\w*|will be|going to be|"
-    r"to be (?:sold|culled|slaughtered|exported|rehomed)|(?:soll|sollen)\b.*\b(?:werden|weg)|à (?:abattre|réformer))\b",
+    r"\b(?:prévue?s?|planned|scheduled|geplante?[rs]?|vorgesehen|voraussichtlich\w*|will (?:be|go)|going to|goes to|"
+    r"to be (?:sold|culled|slaughtered|exported|rehomed)|wird|werden|geht|gehen|soll|sollen|va|vont|sera|ira|"
+    r"à (?:abattre|réformer))\b",
     re.IGNORECASE,
 )
 

@@ -9,6 +9,7 @@ from typing import Container
 from gudokeyi.domain.kinds import Field
 from gudokeyi.ingest.exits_below import is_title_of_exits
 from gudokeyi.ingest.findings.exit_tables import ExitsBeside, WorksheetOfExits
+from gudokeyi.ingest.relatives import names_other
 from gudokeyi.ingest.sheets import Sheet, SheetRow
 from gudokeyi.ingest.texts import nearly, nearly_all, plain
 from gudokeyi.ingest.titles import KNOWN_TITLES
@@ -18,6 +19,7 @@ from gudokeyi.ingest.workbooks import RowsOfExits
 # so many animals a table has that no empty column parts from the list
 SEVERAL = 2
 KNOWN_IDS = {*KNOWN_TITLES[Field.ID]}
+KNOWN_PARENTS = {*KNOWN_TITLES[Field.SIRE], *KNOWN_TITLES[Field.DAM]}
 
 
 @dataclass(frozen=True)
@@ -82,6 +84,10 @@ def worksheets_told(of_exits: RowsOfExits, living: Container[str]) -> Iterator[W
     """What is told of other worksheets whose titles tell of exits; `living` are the ids of animals that count as
     such."""
     for title, rows in of_exits.items():
+        first = [plain(cell) for _, cells in rows[:1] for cell in cells]
+        # those of young name the dams
+        if names_other(title) or not KNOWN_PARENTS.isdisjoint(first) and KNOWN_IDS.isdisjoint(first):
+            continue
         found = [(line, id) for line, cells in rows if (id := next((cell for cell in cells if cell in living), ""))]
         if found:
             yield WorksheetOfExits(title, len(found), found[0][1], found[0][0])

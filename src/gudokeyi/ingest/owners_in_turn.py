@@ -7,7 +7,8 @@ from typing import NamedTuple
 
 from gudokeyi.domain.kinds import Field
 from gudokeyi.ingest.columns import Columns
-from gudokeyi.ingest.days import is_span
+from gudokeyi.ingest.days import is_span, places_within
+from gudokeyi.ingest.exit_words import exit_word
 from gudokeyi.ingest.findings.owners import OwnersInTurnRead
 from gudokeyi.ingest.sheets import Sheet, SheetRow, cell_of
 from gudokeyi.ingest.texts import listed, plain
@@ -38,7 +39,15 @@ class OwnersInTurn(NamedTuple):
 
 
 def has_owner(cell: str) -> bool:
-    return any(map(str.isalnum, cell)) and not names_no_owner(cell)
+    owner = owner_in(cell)
+    return any(map(str.isalpha, owner)) and not names_no_owner(owner) and not exit_word(cell)
+
+
+def owner_in(cell: str) -> str:
+    """What a cell has besides a day, as `Walsh` of `Walsh 3/4/2022`."""
+    for day in places_within(cell):
+        cell = cell.replace(day[0], " ")
+    return " ".join(cell.split()).strip(" ,;()")
 
 
 def counted(title: str) -> tuple[int, str, bool] | None:
@@ -97,7 +106,7 @@ def with_owners_of_now(
         at = turn.of_now(row) if turn else 0
         if turn and at != turn.owners[0]:
             days = turn.days.get(at)
-            found[Field.OWNER][place] = cell_of(row, at)
+            found[Field.OWNER][place] = owner_in(cell_of(row, at))
             found[Field.SINCE][place] = "" if days is None else cell_of(row, days)
     return found
 

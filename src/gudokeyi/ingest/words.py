@@ -311,6 +311,3 @@ def beginnings(words: list[str], at: int, longest: int) -> Iterator[str]:
         if len(text) > longest:
             return
         yield text
-
-
-# What a cell for an exit says in words: that an animal lives, or that it left.

@@ -141,7 +141,7 @@ class OwnerOfGeneration(PlausibilityWarning):
     code = "owner of generation"
     message = Text(
         "the owner '{owner}' may be {which}, as its name stands without sen. or jun.: if they are one, write the name "
-        "alike in all rows, and take the sheet again"
+        "the same way in all rows, and take the sheet again"
     )
 
     def values(self) -> Mapping[str, object]:
