@@ -30,9 +30,15 @@ unknown_words <- c(
   "m\u00e8re non d\u00e9clar\u00e9e", "non d\u00e9clar\u00e9", "non d\u00e9clar\u00e9e", "non enregistr\u00e9",
   "non enregistr\u00e9e", "non inscrit", "non inscrite", "nicht eingetragen", "nicht eingetr", "nicht registriert",
   "nicht erfasst", "fremdbock", "fremdwidder", "fremdhengst", "fremdbulle", "fremdr\u00fcde", "fremdkater", "stray",
-  "stray tom", "mixed mating", "mixed matings", "group mating", "pending dna", "dna pending", "-1", "-9", "-99", "-999",
-  "-9999"
+  "stray tom", "mixed mating", "mixed matings", "group mating", "pending dna", "dna pending",
+  "n\u00e9ant", "n\u00e9 de p\u00e8re inconnu", "n\u00e9e de p\u00e8re inconnu", "n\u00e9 de m\u00e8re inconnue",
+  "n\u00e9e de m\u00e8re inconnue", "de p\u00e8re inconnu", "de m\u00e8re inconnue", "n\u00e9 de parents inconnus",
+  "n\u00e9e de parents inconnus", "parents inconnus", "origines inconnues", "von unbekanntem vater",
+  "von unbekannter mutter",
+  "-1", "-9", "-99", "-999", "-9999"
 )
+# capitals often lack their accents
+unknown_words <- unique(c(unknown_words, chartr("\u00e9\u00e8\u00fc", "eeu", unknown_words)))
 # signs alone, zeros alone, and the usual numbers as other programs write them
 unknown_signs <- "^([-\u2013\u2014?.*/_~+\u2020\u271d]+|[-+]?0[0.,]*|-(1|9{1,4})[.,]0+)$"
 error_values <- paste0(

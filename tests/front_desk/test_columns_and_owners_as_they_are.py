@@ -98,7 +98,7 @@ def test_owner_with_more_than_a_name(desk: Desk, owner: str, told: str) -> None:
     assert "like a name" not in desk.take(text).out
 
 
-@pytest.mark.parametrize("cell", ["Schwester von 002", "002 (porteuse)", "half sister of 002"])
+@pytest.mark.parametrize("cell", ["Schwester von 002", "half sister of 002"])
 def test_parent_named_by_relation(desk: Desk, cell: str) -> None:
     """Another animal in a parent's cell isn't that parent."""
     done = desk.take(TITLES + PAIR + f"003;A;w;3.2.2013;001;{cell};Huber;\n")

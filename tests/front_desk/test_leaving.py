@@ -36,8 +36,10 @@ def test_faulty_parents(desk: Desk) -> None:
             "line 7: after: its dam b (line 3, left 2003-01-01) is left out: it left on a day before the birth "
             "(refusal 9); after was born 2004-02-01; offspring from a stored embryo needs 1 in the column embryo"
         ),
-        "line 9: both: its sire b (line 3) is left out: it isn't male (refusal 5)",
-        "line 9: both: its dam a (line 2) is left out: it isn't female (refusal 6)",
+        (
+            "line 9: both: its sire and dam may be swapped: b, which stands as its sire, is female, and a, which stands "
+            "as its dam, is male: both are left out, and count as unknown; write each in its own column"
+        ),
         "line 12: z: its sire y is left out: z would be its own ancestor (z > y > x > z)",
         "line 13: q: its sire p is left out: q would be its own ancestor (q > p > q)",
     )

@@ -257,3 +257,11 @@ def test_many_ids_are_compared_as_one_by_one() -> None:
     assert nearly_all([]) == []
     # a sign that is to stand between them
     assert nearly_all([*ids, "a\0", "007"]) == [*map(nearly, [*ids, "a\0", "007"])]
+
+
+def test_ids_that_signs_alone_tell_apart(desk: Desk) -> None:
+    """1-12 and 11-2 become alike without their signs: then no id is taken as one of the book."""
+    rows = "1{0}12;Max;M;2001-03-01;;\n11{0}2;Eva;F;2001-03-02;;\n"
+    rows += "".join(f"2{{0}}{at};K{at};F;2004-01-0{at};1{{0}}12;11{{0}}2\n" for at in range(1, 7))
+    desk.take(TITLES + rows.format("-"))
+    desk.wrong("the same animals with another id", "import", desk.write("sheet.csv", TITLES + rows.format(" ")))

@@ -216,14 +216,14 @@ def test_exits_withdrawn(desk: Desk) -> None:
     the command that is suggested brings all back; a column that has others is the right one."""
     rows = [f"a{at};F;2001-03-0{at};;;{'sold' if at < 3 else '2010-01-01'}" for at in range(1, 7)]
     empty = [row.rpartition(";")[0] + ";" for row in rows]
-    told = "to look at: {} that had left {} as living again, {}: does the column of exits lack {}?"
+    told = "to look at: {} that had left {} as living again, {}: {} missing in the sheet?"
     desk.take(TITLES + "\n".join(rows))
     done = desk.take(TITLES + "\n".join([empty[0], "a3;F;2001-03-03;;;lebt", *rows[1:2], *rows[3:]]))
-    done.shows(told.format("1 animal", "counts", "a1 (line 2)", "it"))
+    done.shows(told.format("1 animal", "counts", "a1 (line 2)", "is its exit"))
     assert not done.commands()
     desk.take(TITLES + "\n".join(rows))
     exits = [row["exit"] for row in desk.table("book/ids.csv")], desk.commands()
-    first = told.format("{} animals", "count", "the first are a1 (line 2), a2 (line 3), a3 (line 4)", "theirs")
+    first = told.format("{} animals", "count", "the first are a1 (line 2), a2 (line 3), a3 (line 4)", "are their exits")
     done = desk.take(TITLES + "\n".join(empty[:3] + rows[3:]))
     done.shows(first.format(3))
     assert not done.commands()
@@ -263,7 +263,7 @@ def test_what_may_be_wrong_comes_first(desk: Desk) -> None:
     # exits that a sentence of all tells aren't told one by one
     assert "its exit is left out" not in done.out
     exits = next(at for at, line in enumerate(lines) if "an exit without a day stands in" in line)
-    assert exits > places[-1]
+    assert places[-2] < exits < places[-1]
     assert sum(row["what"] == "left out" for row in desk.table("book/report.csv")) == 63
 
 

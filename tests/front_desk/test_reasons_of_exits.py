@@ -363,6 +363,13 @@ def test_causes_that_are_no_exits(desk: Desk, titles: str, cells: str) -> None:
     assert " 0 changed" in desk.take(sheet).last
 
 
+@pytest.mark.parametrize("cause", ["nach Kastration", "Leihende, zurück an Eder", "prêt terminé"])
+def test_causes_of_what_is_over(desk: Desk, cause: str) -> None:
+    """The animal left then."""
+    desk.take(CAUSES.format("Date de sortie;Motif", "1.2.2020;mort", f"5.6.2023;{cause}"))
+    assert reason(desk, "A2") == ("2023-06-05", cause)
+
+
 @pytest.mark.parametrize("cause", ["changement de propriétaire", "Besitzerwechsel", "change of ownership", "transfert"])
 def test_changes_of_owners_as_causes(desk: Desk, cause: str) -> None:
     """One to an owner of the list is a transfer; of another it is told that the animal counts as gone."""

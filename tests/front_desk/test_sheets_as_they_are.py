@@ -296,7 +296,7 @@ def test_row_of_a_former_id(desk: Desk) -> None:
     desk.take(TITLES + NAMED)
     told = (
         "line 9: 777: to look at: its former id 006 has a row too, line 8, with its name and its birth day: take line "
-        "8 out, else 006 is another animal"
+        "8 out, or 006 counts as another animal"
     )
     # also if both are said at once, and if the row of before is the book's next one
     desk.take(TITLES + NAMED + SECOND_ROW, "--new-tag", "006=777", "--preview").tells(told)

@@ -320,7 +320,7 @@ def test_worksheet_with_other_animals(desk: Desk, workbook: openpyxl.Workbook) -
     assert "'Mitglieder' isn't read, and" not in done.told
     [command] = [one for one in done.commands() if "--append" in one]
     assert "4 animals, 2 new" in desk.typed(command.partition(" && ")[2] or command).last
-    assert "isn't read, and has" not in desk.good("import", "sheet.xlsx", "--worksheet", "Tiere", "--append").told
+    assert "neither on this one" not in desk.good("import", "sheet.xlsx", "--worksheet", "Tiere", "--append").told
 
 
 def test_worksheet_that_is_part(desk: Desk, workbook: openpyxl.Workbook) -> None:

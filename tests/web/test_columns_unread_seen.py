@@ -32,7 +32,7 @@ SAID = {
         "no column of exits is found, and 'Letzter Tag' isn't read, whose 3 days are all later than the births, the "
         "first '03.",
         "the dam of 1 animal is read from 'genetische Mutter', '003' in line 6: '002' in 'Mutter' carried it",
-        "1 row has no dam in 'Mutter', and '003' in 'Leihmutter', in line 7: who carries an animal isn't its dam",
+        "1 row has no dam in 'Mutter', and '003' in 'Leihmutter', in line 7: the animal that carried the embryo isn't the dam",
         "'Vater gemäss DNA' isn't read, and has another sire than 'Vater' in 1 row: '004' and not '001', in line 6",
         "the column 'totgeboren' isn't read, and has 'x' in line 7: if that animal was born dead",
         "the column 'ungültig' isn't read, and has 'x' in line 8: the row is taken like all others",

@@ -78,7 +78,7 @@ def test_as_the_words(
         ("exit", {"id": DAM, "day": "1899-12-31"}, "the day 1899-12-31 is too long ago"),
         ("birth", BIRTH | {"id": "\0"}, "'' has an invisible character in it"),
         ("birth", BIRTH | {"id": "NEW\x1b-1"}, "'NEW-1' has an invisible character in it"),
-        ("transfer", {"id": DAM, "day": "2024-05-01", "to": "\u202eMill"}, "'Mill' has a sign within"),
+        ("transfer", {"id": DAM, "day": "2024-05-01", "to": "\u202eMill"}, "'Mill' has an invisible character in it"),
         ("birth", BIRTH | {"id": "NN"}, "'NN' is a word for an unknown parent"),
         ("birth", BIRTH | {"sex": "x"}, "choose male or female"),
         ("birth", BIRTH | {"sire": "GK-10/294"}, "is GK-10/294b"),

@@ -21,8 +21,8 @@ LIST = TITLES + (
 SAID = (
     "its name 'Max †' seems to tell of an exit", "its name 'Eva RIP' seems to tell of an exit",
     "Its id has DE 0003 and DE 0004 in it", "the column G has no title",
-    "seems to have exchanged day and month in 'geb'", "'Pending' reads like no id",
-    "its name is 'dito', which stands for the cell above", "has the birth day 1900-01-01", "'Böcke' stands above 3 animals whose rows say no sex",
+    "seems to have exchanged day and month in 'geb'", "'Pending' doesn't read like an id",
+    "its name is 'dito', which in other columns stands for the cell above", "has the birth day 1900-01-01", "'Böcke' stands above 3 animals whose rows say no sex",
     "(is DE 0003 / DE 0004 meant?)", "says that there is no name, 'N.N.' in line 12",
 )  # fmt: skip
 
@@ -33,8 +33,8 @@ def test_what_is_said(empty_site: Site, program: str, tmp_path: pathlib.Path) ->
     first, left_out = shown(part(page, "May be wrong")), shown(part(page, "Left out"))
     assert not [one for one in SAID if one not in first]
     assert "it has no id; it says 'Hof Süd'" in left_out
-    # what decides how the sheet is read comes first
-    assert first.index("the column G has no title") < first.index("'Pending' reads like no id")
+    # what may mix up animals comes before what is left open
+    assert first.index("'Pending' doesn't read like an id") < first.index("the column G has no title")
     told = Desk(tmp_path / "terminal", program).take(LIST, "--preview").out
     assert not [one for one in SAID if one not in told] and "it has no id; it says 'Hof Süd'" in told
 

@@ -254,4 +254,4 @@ def test_worksheets_of_animals(empty_site: Site) -> None:
     page = site.take(address)
     with site.desk.opened() as book:
         assert book and len(book.society_records) == 13
-    assert "isn't read, and has" not in shown(site.page(site.drop("herde.xlsx", file.getvalue())))
+    assert "neither on this one" not in shown(site.page(site.drop("herde.xlsx", file.getvalue())))

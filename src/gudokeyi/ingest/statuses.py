@@ -251,9 +251,15 @@ def add_days_of_sales(exits: Exits, rows: list[SheetRow], titles: Sequence[str],
             exits.texts[place] = f"{said if is_of_others else exit} {day}".strip()
 
 
+# what is over by then, as in `nach Kastration` and `prêt terminé`
+OVER = re.compile(
+    r"\b(?:nach|after|après|suite|zurück an|back to|beendet|ended|over|terminée?|finie?)\b|ende\b", re.IGNORECASE
+)
+
+
 def is_other_event(reason: str) -> bool:
     """Tells it of no exit, or of one that may be none, as a change of owners?"""
-    return is_still_there(reason) or bool(owner_change(reason))
+    return not OVER.search(reason) and (is_still_there(reason) or bool(owner_change(reason)))
 
 
 def add_reasons(exits: Exits, rows: list[SheetRow], of_reasons: int, at: int, unknown: Container[str]) -> None:

@@ -43,6 +43,7 @@ SEXES = {
     "cock, cockerel, rooster, Hahn, Junghahn, Althahn, Zuchthahn, Gockel, Güggel, coq, coquelet, drake, Erpel, "
     "gander, Ganter, Gänserich, jars, gobbler, Truthahn, Puter, dindon, Täuber, Täuberich",
     "F": "f, fs, fn, bs, female, fem, w, wbl, weiblich, weibl, weibliche, Weibchen, femelle, féminin, fém, spayed, "
+    "âne femelle, lapin femelle, chat femelle, chien femelle, "
     "spayed female, Mutter, Muttertier, reproductrice, génitrice, hembra, ♀, "
     "cow, heifer, hfr, heifer calf, maiden heifer, freemartin, Kuh, Jungkuh, Altkuh, Zuchtkuh, Milchkuh, "
     "Mutterkuh, Erstlingskuh, Färse, Zuchtfärse, Kalbin, Jungkalbin, Zuchtkalbin, Kalbe, Sterke, Starke, Queene, "

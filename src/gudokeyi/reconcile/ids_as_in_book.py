@@ -33,9 +33,10 @@ def call_as_in_book(animals: dict[str, SheetAnimal], book: Book, report: Report)
     new = [id for id in animals if id not in known] if known else []
     if len(new) < LEAST or 2 * len(new) <= len(animals):
         return
+    if any(are_alike(new, form) or are_alike(known, form, {*map(form, new)}) for form in FORMS):
+        return
     of_book = [only_ones(known, form) for form in FORMS]
-    alone = [{*only_ones(new, form).values()} for form in FORMS]
-    meant = {id: found for id in new if (found := meant_by(id, of_book)) and all(id in ones for ones in alone)}
+    meant = {id: found for id in new if (found := meant_by(id, of_book))}
     called = {id: other for id, other in meant.items() if other not in animals and may_be_one(book, animals[id], other)}
     twice = {other for other, count in collections.Counter(called.values()).items() if count > 1}
     called = {id: other for id, other in called.items() if other not in twice}
@@ -46,6 +47,12 @@ def call_as_in_book(animals: dict[str, SheetAnimal], book: Book, report: Report)
     report.add(0, "", IdsAsInBook(len(called), animals[first].line, first, called[first]))
     rename(animals, called)
     call_parents(animals, known.keys(), of_book)
+
+
+def are_alike(ids: Iterable[str], form: Callable[[str], str], some: Set[str] | None = None) -> bool:
+    """Have two ids one form, or one of some forms, so that neither can be told from the other?"""
+    counts = collections.Counter(map(form, ids))
+    return any(counts[text] > 1 for text in (counts if some is None else some))
 
 
 def only_ones(ids: Iterable[str], form: Callable[[str], str]) -> dict[str, str]:

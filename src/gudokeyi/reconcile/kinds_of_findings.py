@@ -66,13 +66,14 @@ HEADINGS: Mapping[Harm, Mapping[str, tuple[str, ...]]] = {
             "new tag", "tag without sign", "old tag", "new tag beside row", "row of former id",
         ),
         "Two rows or animals may be the same animal": ("ids alike", "same but for sign", "name and day twice"),
-        "Rows that may be no animals": ("like a sum", "id alone", "id unlike others"),
+        "Rows that may be no animals": ("like a sum", "id alone", "id unlike others", "animal after all"),
         "Rows that may be several animals": ("two ids",),
         "Ids or names seem to be miswritten": (
             "id with fewer digits", "id of another alphabet", "id to come", "ditto for text",
-            "day for text",
+            "day for text", "ids as in book", "ids of other alphabet", "ids unlike others", "ids with fewer digits",
+            "ids with more",
         ),
-        "Long numbers have lost digits in the spreadsheet": ("digits lost",),
+        "Long numbers have lost digits in the spreadsheet": ("digits lost", "id used often"),
         "Ids of the book lose the apostrophe before them": ("ids with apostrophe",),
         "Letters are lost or wrong": ("letters lost", "letters doubtful", "decoded twice"),
         "Days of a column aren't those that were written": ("days exchanged", "years as days"),
@@ -91,10 +92,11 @@ HEADINGS: Mapping[Harm, Mapping[str, tuple[str, ...]]] = {
         "Parents are read from another column than usual": ("parents from other",),
         "Parents change": ("value changed sire", "value changed dam"),
         "Parents left out: they can't be the parents": (
-            "own ancestor", "same parent twice", "parent refused", "no sexes fit",
+            "own ancestor", "same parent twice", "parent refused", "no sexes fit", "parents exchanged",
         ),
         "Parents left out: it isn't clear which animals are meant": (
-            "either parent", "both parents", "named by relation", "not said to be parent",
+            "either parent", "both parents", "named by relation", "not said to be parent", "carrier no dam",
+            "parent not sure",
         ),
         "Words that may stand for unknown parents": (
             "may be unknown", "like no id", "title as parent", "more may be unknown",
@@ -115,27 +117,34 @@ HEADINGS: Mapping[Harm, Mapping[str, tuple[str, ...]]] = {
         "Owners change": ("value changed owner", "value changed owner since", "owners merged", "owner renamed"),
         "A column that may tell of exits isn't read": (
             "status unread", "status of codes", "living unmarked", "may be exits", "tells no exits",
-            "stillborn unread",
+            "stillborn unread", "causes unread", "exits since said",
         ),
+        "Tables or worksheets of exits aren't read": ("exits beside", "exits below unread", "worksheet of exits"),
         "Remarks or headings tell of exits of animals that count as living": (
-            "exits in remarks", "exit column unread", "section of exits",
+            "exits in remarks", "exit in remark", "exit column unread", "section of exits",
         ),
         "Exits seem to stand in other cells, such as the name": (
-            "name tells of exit", "id tells of exit", "sex tells of exit", "death in birth", "born dead",
+            "name tells of exit", "id tells of exit", "sex tells of exit", "death in birth", "birth of born dead",
+            "born dead",
         ),
-        "It isn't certain whether animals have left": ("exit in doubt", "buyer disagrees", "status disagrees"),
+        "It isn't certain whether animals have left": (
+            "exit in doubt", "buyer disagrees", "status disagrees", "states in doubt",
+        ),
         "Exits can't be read, and the animals count as gone": ("cells unread exit", "day left out exit"),
         "A day beside other words counts as an exit": ("exits in other words",),
         "What stands for exits says something else, and the animals stay": ("no exits",),
         "Coloured or hidden rows are taken like all others": ("grey rows", "colored rows", "hidden rows"),
         "Very old animals count as living": ("old as living", "many old as living"),
         "Exits name an owner: is the animal with that one?": ("taker unclear", "owner in exit"),
-        "Animals were sold to an owner of the society": ("sold within", "sold then left", "sold earlier", "owner sold"),
+        "Animals were sold to an owner of the society": (
+            "sold within", "sold then left", "sold earlier", "owner sold", "owner after sale", "owners in turn",
+        ),
         "Owners who may be one, written in two ways": (
             "owner respelt", "owner meant", "owner mistyped", "owners alike", "owners otherwise",
-            "owner of book alike", "owner with more", "owner with initial", "owner of several",
+            "owner of book alike", "owner with more", "owner with initial", "owner of several", "owner of generation",
+            "owners count up",
         ),
-        "Owners that don't look like names": ("owner is no name",),
+        "Owners that don't look like names": ("owner is no name", "owner for sale"),
         "Owners beside the column of owners aren't read": (
             "owners beside", "second owners unread", "owners of one name", "sections of owners",
         ),
@@ -145,7 +154,7 @@ HEADINGS: Mapping[Harm, Mapping[str, tuple[str, ...]]] = {
     },
     Harm.LEFT_OPEN: {
         "A column isn't found or isn't read, and the book keeps what it has": (
-            "column lost", "own column lost", "said none",
+            "column lost", "own column lost", "said none", "entry days unread",
         ),
         "It isn't clear which of two columns is meant": ("likelier column", "title twice"),
         "A column with texts isn't read": ("column untitled", "title below", "corrections unread", "breeders not kept"),
@@ -163,7 +172,10 @@ HEADINGS: Mapping[Harm, Mapping[str, tuple[str, ...]]] = {
         "Marks for the cell above have nothing above them": ("nothing repeated",),
     },
     Harm.NOTES: {
-        "Exits are read from a second column too": ("exit days read", "buyers read", "status read"),
+        "Exits are read from a second column or from rows below the list too": (
+            "exit days read", "buyers read", "status read", "exits below",
+        ),
+        "Columns are read by what their cells say": ("parents by cells", "sexes by cells", "titles joined"),
         "Birth days are read from several columns": ("births joined", "birth years read"),
         "Days are read in the way that is told": ("days read so", "no days"),
         "Words for the sexes are read in the way that is told": (

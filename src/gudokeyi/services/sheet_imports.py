@@ -31,6 +31,7 @@ from gudokeyi.reconcile.earlier_sales import leave_earlier_sales
 from gudokeyi.reconcile.exits import leave_out_early_exits, tell_most_changed, tell_withdrawn_exits
 from gudokeyi.reconcile.findings.obstacles import StrictlyNothing
 from gudokeyi.reconcile.findings.own_columns import BreedersNotKept
+from gudokeyi.reconcile.findings.same_animals import IdsExchanged
 from gudokeyi.reconcile.ids_as_in_book import call_as_in_book
 from gudokeyi.reconcile.ids import call_as_now, give_numbers, letters_unsaid, numbers_begin
 from gudokeyi.reconcile.import_options import (
@@ -160,7 +161,8 @@ def drop_besides_left_out(report: Report) -> None:
 
 def is_of_row(entry: Entry) -> bool:
     """Does it tell of what the row says, as it is read, and not of other rows?"""
-    return entry.what in (What.WARNING, What.INFERRED) and not isinstance(entry.finding, SheetFinding)
+    of_others = isinstance(entry.finding, SheetFinding | IdsExchanged)
+    return entry.what in (What.WARNING, What.INFERRED) and not of_others
 
 
 def tell_plausibility(next_book: NextBook, limits: Limits) -> None:

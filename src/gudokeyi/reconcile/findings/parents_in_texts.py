@@ -49,6 +49,9 @@ class ParentsExchanged(ParentLeftOut):
         "dam, is male: both are left out, and count as unknown; write each in its own column"
     )
 
+    def times(self) -> int:
+        return 2
+
 
 @dataclass(frozen=True, slots=True)
 class NamedByRelation(ParentLeftOut):

@@ -270,9 +270,9 @@ class ExitsWithdrawn(PlausibilityWarning):
     severity = Severity.ANIMALS
     code = "exits withdrawn"
     message = Counted(
-        "{animals} animal that had left counts as living again, {first}: is its exit missing in that column?",
+        "{animals} animal that had left counts as living again, {first}: is its exit missing in the sheet?",
         "{animals} animals that had left count as living again, the first are {first}: are their exits missing in "
-        "that column?",
+        "the sheet?",
         "animals",
     )
 
