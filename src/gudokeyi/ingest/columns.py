@@ -129,15 +129,7 @@ def find_columns(
     # a dog and a bitch may be the animals themselves, but for where both have a column
     columns.apart = [at for at in columns_of_pair(sheet) if columns.is_free(at)]
     find_person(columns, named)
-    for name in TITLES:
-        if name not in named and name not in (Field.ID, *PARENTS):
-            usual_column(columns, name)
-    for name, tells in ((Field.SEX, names_both_sexes), (Field.EXIT, names_exits_alone)):
-        if name not in named and name not in columns.found:
-            column_of_words(columns, name, tells)
-    for name in BELOW:
-        if name not in named and name not in columns.found:
-            column_below(columns, name)
+    find_by_titles(columns, named)
     # one that the last sheet had and this one lacks is told
     if Field.OWNER not in {*named, *columns.found} and not before.get(Field.OWNER):
         columns.found |= {Field.OWNER: at for at in owners_by_cells(sheet)[:1] if columns.is_free(at)}
@@ -161,6 +153,19 @@ def find_columns(
     tell_likelier(columns, given, before)
     tell_lacking(columns, named, before, LikelyColumns(columns, unknown))
     return columns
+
+
+def find_by_titles(columns: Columns, named: Mapping[str, str]) -> None:
+    """By their usual titles, by words within titles, or by titles above theirs; but for those of ids and parents."""
+    for name in TITLES:
+        if name not in named and name not in (Field.ID, *PARENTS):
+            usual_column(columns, name)
+    for name, tells in ((Field.SEX, names_both_sexes), (Field.EXIT, names_exits_alone)):
+        if name not in named and name not in columns.found:
+            column_of_words(columns, name, tells)
+    for name in BELOW:
+        if name not in named and name not in columns.found:
+            column_below(columns, name)
 
 
 def tell_lacking(
