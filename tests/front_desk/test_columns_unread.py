@@ -169,7 +169,8 @@ def test_titles_of_first_days(desk: Desk, title: str) -> None:
 def test_purchases_beside_animals_of_their_own(desk: Desk) -> None:
     """Where most of a herd were never bought the days of the others are read all the same."""
     born = "id;sex;born;sire;dam;owner;Purchased\na1;m;2015-03-12;;;Daly;2022-04-03\n"
-    rows = "".join(f"a{at};f;2016-03-12;;;Daly;{said}\n" for at, said in enumerate(("homebred", "since birth"), 2))
+    others = "homebred", "3/4/22 (€950)", "since birth"
+    rows = "".join(f"a{at};f;2016-03-12;;;Daly;{said}\n" for at, said in enumerate(others, 2))
     desk.take(born + rows)
     assert "Daly, since 2022-04-03" in desk.good("show", "a1").out
 

@@ -12,8 +12,8 @@ from typing import Container
 from gudokeyi.domain.findings import Report
 from gudokeyi.domain.kinds import Field
 from gudokeyi.ingest.day_forms import SERIAL, TWO
-from gudokeyi.ingest.days import DIGITS, Unreadable, is_span, places_within, read_span
-from gudokeyi.ingest.exit_places import place_of_exit
+from gudokeyi.ingest.days import DIGITS, Unreadable, behind_since, is_span, places_within, read_span
+from gudokeyi.ingest.exit_places import has_day, place_of_exit
 from gudokeyi.ingest.findings.exits import BuyerDisagrees, BuyersRead, ExitDaysRead, Remark
 from gudokeyi.ingest.findings.rows import StatusDisagrees
 from gudokeyi.ingest.sheets import Sheet, SheetRow, cell_of
@@ -126,7 +126,8 @@ def are_days(texts: Iterable[str]) -> bool:
 def are_purchases(texts: Iterable[str]) -> bool:
     """Have most of some texts the day of a purchase, or say that there was none, as `homebred`?"""
     some = [*itertools.islice(texts, MOST_TEXTS)]
-    return 2 * sum(says_day(text) or plain(text) in KNOWN_SINCE_BIRTH for text in some) > len(some)
+    born = [plain(behind_since(text)) in KNOWN_SINCE_BIRTH for text in some]
+    return 2 * sum(is_one or says_day(text) or has_day(text) for text, is_one in zip(some, born)) > len(some)
 
 
 def says_plainly(word: str) -> bool:
