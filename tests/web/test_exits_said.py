@@ -62,7 +62,7 @@ def test_day_of_a_sale_elsewhere(empty_site: Site) -> None:
 
 
 @pytest.mark.parametrize(("language", "told"), [
-    ("en", "1 animal that had left counts as living again, 002 (line 3): is its exit missing in that column?"),
+    ("en", "1 animal that had left counts as living again, 002 (line 3): is its exit missing in the sheet?"),
     ("de", "1 abgegangenes Tier zählt wieder als lebend, 002 (Zeile 3): fehlt sein Abgang in der Spalte?"),
     ("fr", "1 animal sorti compte de nouveau comme vivant, 002 (ligne 3) : sa sortie manque-t-elle dans la colonne ?"),
 ])  # fmt: skip
